@@ -1,0 +1,185 @@
+-- A report determines its history and how it ended.
+use Rattle.std.proofs.Common.{◌≡◌, ℕ, ◌*◌, List, [], ◌∷◌, ◌++◌, length, map, refl, sym, ap, ap₂, ◌∙◌, arith, subst, get_or, if◌then◌else◌, ◌==◌}
+use Rattle.std.proofs.lemmas.List.{append_assoc}
+use Rattle.std.specs.List.{AllByRecursion, join_with_byte, flat_map}
+use Rattle.zd_model.specs.Text.{numeral}
+use Rattle.zd_model.specs.Pieces.{first_block}
+use Rattle.zd_model.specs.Script.{letter, numbers_of}
+use Rattle.zd_model.specs.Report.{items_text, reply_text, entry_text, ending_text, report, HasReply, IsReported}
+use Rattle.zd_model.specs.declared.requests.What.{What}
+use Rattle.zd_model.specs.declared.requests.What.TheVariants.{Read, Write, Discard, Flush}
+use Rattle.zd_model.specs.Plain.{Answer}
+use Rattle.zd_model.specs.Plain.Answer.{Got, Done, Range, Fault}
+use Rattle.zd_model.specs.History.{HistoryEntry}
+use Rattle.zd_model.specs.declared.requests.Ending.{Ending}
+use Rattle.zd_model.specs.declared.requests.Ending.TheVariants as endings
+use Rattle.zd_base.specs.declared.numbers.Why.TheVariants as whys
+use Rattle.zd_model.proofs.TextLaws.{IsDigit, same_numeral, head_is, tail_is, numeral_head}
+use Rattle.zd_model.proofs.LineLaws.{what_is}
+use Rattle.zd_model.proofs.ItemLaws.{AllBytes}
+use Rattle.zd_model.proofs.ReadLaws.{same_items}
+
+numbers_then : List ℕ → List ℕ → List ℕ
+numbers_then [] rest = rest
+numbers_then (n ∷ ns) rest = numeral n ++ 32 ∷ numbers_then ns rest
+
+-- the line from left to right
+line_parts : HistoryEntry → List ℕ → List ℕ
+line_parts e rest = numeral e.caller ++ 32 ∷ (numeral e.request ++ 32 ∷ (numeral e.piece ++ 32 ∷ (letter e.what ∷ 32 ∷ numbers_then (numbers_of e.what) (reply_text e.what e.reply ++ 32 ∷ 64 ∷ (numeral e.at ++ 10 ∷ rest)))))
+
+words_split : (x y : List ℕ) (words : List (List ℕ)) (rest : List ℕ) → join_with_byte 32 (x ∷ y ∷ words) ++ rest ≡ x ++ 32 ∷ (join_with_byte 32 (y ∷ words) ++ rest)
+words_split x y words rest = append_assoc x (32 ∷ join_with_byte 32 (y ∷ words)) rest
+
+numbers_split : (ns : List ℕ) (reply at rest : List ℕ) → join_with_byte 32 (map numeral ns ++ reply ∷ at ∷ []) ++ rest ≡ numbers_then ns (reply ++ 32 ∷ (at ++ rest))
+unfolding numbers_then
+numbers_split [] reply at rest = append_assoc reply (32 ∷ at) rest
+numbers_split (n ∷ []) reply at rest = words_split (numeral n) reply (at ∷ []) rest ∙ ap (λ xs. numeral n ++ 32 ∷ xs) (numbers_split [] reply at rest)
+numbers_split (n ∷ m ∷ ns) reply at rest = words_split (numeral n) (numeral m) (map numeral ns ++ reply ∷ at ∷ []) rest ∙ ap (λ xs. numeral n ++ 32 ∷ xs) (numbers_split (m ∷ ns) reply at rest)
+
+letter_split : (l : ℕ) (ns : List ℕ) (reply at rest : List ℕ) → join_with_byte 32 ((l ∷ []) ∷ (map numeral ns ++ reply ∷ at ∷ [])) ++ rest ≡ l ∷ 32 ∷ numbers_then ns (reply ++ 32 ∷ (at ++ rest))
+letter_split l [] reply at rest = words_split (l ∷ []) reply (at ∷ []) rest ∙ ap (λ xs. l ∷ 32 ∷ xs) (numbers_split [] reply at rest)
+letter_split l (n ∷ ns) reply at rest = words_split (l ∷ []) (numeral n) (map numeral ns ++ reply ∷ at ∷ []) rest ∙ ap (λ xs. l ∷ 32 ∷ xs) (numbers_split (n ∷ ns) reply at rest)
+
+entry_split : (e : HistoryEntry) (rest : List ℕ) → entry_text e ++ rest ≡ line_parts e rest
+unfolding entry_text line_parts
+entry_split e rest =
+    let tail : List (List ℕ) = map numeral (numbers_of e.what) ++ reply_text e.what e.reply ∷ (64 ∷ numeral e.at) ∷ [] in
+    let words : List (List ℕ) = (letter e.what ∷ []) ∷ tail in
+    append_assoc (join_with_byte 32 (numeral e.caller ∷ numeral e.request ∷ numeral e.piece ∷ words)) (10 ∷ []) rest
+    ∙ words_split (numeral e.caller) (numeral e.request) (numeral e.piece ∷ words) (10 ∷ rest)
+    ∙ ap (λ xs. numeral e.caller ++ 32 ∷ xs) (words_split (numeral e.request) (numeral e.piece) words (10 ∷ rest)
+    ∙ ap (λ xs. numeral e.request ++ 32 ∷ xs) (words_split (numeral e.piece) (letter e.what ∷ []) tail (10 ∷ rest)
+    ∙ ap (λ xs. numeral e.piece ++ 32 ∷ xs) (letter_split (letter e.what) (numbers_of e.what) (reply_text e.what e.reply) (64 ∷ numeral e.at) (10 ∷ rest))))
+
+space : IsDigit 32 → ⊥
+space d = let h = d.low in omega arith
+
+feed : IsDigit 10 → ⊥
+feed d = let h = d.low in omega arith
+
+record Same {X : Type 0} (x y : X) (rest more : List ℕ) : Type 0 where
+  pub value : x ≡ y
+  pub after : rest ≡ more
+
+same_numbers : (ms ns rest more : List ℕ) → length ms ≡ length ns → numbers_then ms rest ≡ numbers_then ns more → Same ms ns rest more
+unfolding numbers_then
+same_numbers [] [] rest more l e = record { value = refl; after = e }
+same_numbers [] (n ∷ ns) rest more l e = absurd (omega arith)
+same_numbers (m ∷ ms) [] rest more l e = absurd (omega arith)
+same_numbers (m ∷ ms) (n ∷ ns) rest more l e =
+    let first = same_numeral m n 32 32 (numbers_then ms rest) (numbers_then ns more) space space e in
+    let others = same_numbers ms ns rest more (omega arith) first.after in
+    record { value = ap₂ (λ (x : ℕ) (xs : List ℕ). x ∷ xs) first.number others.value; after = others.after }
+
+same_length : (v w : What) → letter v ≡ letter w → length (numbers_of v) ≡ length (numbers_of w)
+same_length (Read b n) (Read c m) l = refl
+same_length (Read b n) (Write c m t) l = absurd (omega arith)
+same_length (Read b n) (Discard c m) l = refl
+same_length (Read b n) Flush l = absurd (omega arith)
+same_length (Write b n s) (Read c m) l = absurd (omega arith)
+same_length (Write b n s) (Write c m t) l = refl
+same_length (Write b n s) (Discard c m) l = absurd (omega arith)
+same_length (Write b n s) Flush l = absurd (omega arith)
+same_length (Discard b n) (Read c m) l = refl
+same_length (Discard b n) (Write c m t) l = absurd (omega arith)
+same_length (Discard b n) (Discard c m) l = refl
+same_length (Discard b n) Flush l = absurd (omega arith)
+same_length Flush (Read c m) l = absurd (omega arith)
+same_length Flush (Write c m t) l = absurd (omega arith)
+same_length Flush (Discard c m) l = absurd (omega arith)
+same_length Flush Flush l = refl
+
+-- bytes that answer a read of n blocks
+read_bytes : (what : What) (bytes : List ℕ) → HasReply what (Got bytes) → (n : ℕ) × (length bytes ≡ 512 * (8 * n)) × AllBytes bytes
+read_bytes (Read b n) bytes h = (n, h.0, h.1)
+read_bytes (Write b n s) bytes h = absurd h
+read_bytes (Discard b n) bytes h = absurd h
+read_bytes Flush bytes h = absurd h
+
+same_reply : (w : What) (r q : Answer) (rest more : List ℕ) → HasReply w r → HasReply w q → reply_text w r ++ 32 ∷ rest ≡ reply_text w q ++ 32 ∷ more → Same r q rest more
+same_reply w (Got xs) (Got ys) rest more h k e =
+    let left = read_bytes w xs h in
+    let right = read_bytes w ys k in
+    let inside : items_text (first_block w) xs ++ 32 ∷ rest ≡ items_text (first_block w) ys ++ 32 ∷ more = cc in
+    let same = same_items (first_block w) (8 * left.0) (8 * right.0) xs ys rest more left.1 right.1 left.2 right.2 inside in
+    record { value = ap Got same.bytes; after = same.after }
+same_reply w (Got xs) Done rest more h k e = absurd (let f = head_is 97 111 _ _ (tail_is 100 100 _ _ e) in omega arith)
+same_reply w (Got xs) Range rest more h k e = absurd (let f = head_is 100 114 _ _ e in omega arith)
+same_reply w (Got xs) Fault rest more h k e = absurd (let f = head_is 100 102 _ _ e in omega arith)
+same_reply w Done (Got ys) rest more h k e = absurd (let f = head_is 111 97 _ _ (tail_is 100 100 _ _ e) in omega arith)
+same_reply w Done Done rest more h k e = record { value = refl; after = cc }
+same_reply w Done Range rest more h k e = absurd (let f = head_is 100 114 _ _ e in omega arith)
+same_reply w Done Fault rest more h k e = absurd (let f = head_is 100 102 _ _ e in omega arith)
+same_reply w Range (Got ys) rest more h k e = absurd (let f = head_is 114 100 _ _ e in omega arith)
+same_reply w Range Done rest more h k e = absurd (let f = head_is 114 100 _ _ e in omega arith)
+same_reply w Range Range rest more h k e = record { value = refl; after = cc }
+same_reply w Range Fault rest more h k e = absurd (let f = head_is 114 102 _ _ e in omega arith)
+same_reply w Fault (Got ys) rest more h k e = absurd (let f = head_is 102 100 _ _ e in omega arith)
+same_reply w Fault Done rest more h k e = absurd (let f = head_is 102 100 _ _ e in omega arith)
+same_reply w Fault Range rest more h k e = absurd (let f = head_is 102 114 _ _ e in omega arith)
+same_reply w Fault Fault rest more h k e = record { value = refl; after = cc }
+
+same_entry : (e f : HistoryEntry) (rest more : List ℕ) → IsReported e → IsReported f → entry_text e ++ rest ≡ entry_text f ++ more → Same e f rest more
+unfolding line_parts
+same_entry e f rest more h k eq =
+    let whole : line_parts e rest ≡ line_parts f more = sym (entry_split e rest) ∙ eq ∙ entry_split f more in
+    let callers = same_numeral e.caller f.caller 32 32 _ _ space space whole in
+    let requests = same_numeral e.request f.request 32 32 _ _ space space callers.after in
+    let pieces = same_numeral e.piece f.piece 32 32 _ _ space space requests.after in
+    let letters = head_is (letter e.what) (letter f.what) _ _ pieces.after in
+    let behind = tail_is 32 32 _ _ (tail_is (letter e.what) (letter f.what) _ _ pieces.after) in
+    let numbers = same_numbers (numbers_of e.what) (numbers_of f.what) _ _ (same_length e.what f.what letters) behind in
+    let what = what_is e.what f.what letters numbers.value in
+    let told : reply_text f.what e.reply ++ 32 ∷ 64 ∷ (numeral e.at ++ 10 ∷ rest) ≡ reply_text f.what f.reply ++ 32 ∷ 64 ∷ (numeral f.at ++ 10 ∷ more) = subst (λ w. reply_text w e.reply ++ 32 ∷ 64 ∷ (numeral e.at ++ 10 ∷ rest) ≡ reply_text f.what f.reply ++ 32 ∷ 64 ∷ (numeral f.at ++ 10 ∷ more)) what numbers.after in
+    let replies = same_reply f.what e.reply f.reply _ _ (subst (λ w. HasReply w e.reply) what h) k told in
+    let times = same_numeral e.at f.at 10 10 rest more feed feed (tail_is 64 64 _ _ replies.after) in
+    record {
+      value = λ i. record { caller = callers.number i; request = requests.number i; piece = pieces.number i; what = what i; reply = replies.value i; at = times.number i };
+      after = times.after;
+    }
+
+record Ends (xs : List ℕ) : Type 0 where
+  pub after : List ℕ
+  pub is : xs ≡ 101 ∷ after
+
+ends : (e : Ending) → Ends (ending_text e)
+ends endings.Ok = record { after = _; is = refl }
+ends (endings.Stopped whys.Device) = record { after = _; is = refl }
+ends (endings.Stopped whys.Generation) = record { after = _; is = refl }
+ends (endings.Stopped whys.Memory) = record { after = _; is = refl }
+
+no_entry : (e : Ending) (f : HistoryEntry) (rest : List ℕ) → ending_text e ≡ entry_text f ++ rest → ⊥
+unfolding line_parts
+no_entry e f rest eq =
+    let front = numeral_head f.caller 101 _ (ends e).after (sym (entry_split f rest) ∙ sym eq ∙ (ends e).is) in
+    let high = front.high in
+    omega arith
+
+-- the status behind `end `
+status : List ℕ → ℕ
+status xs = get_or xs 4 0
+
+ending_of : ℕ → Ending
+ending_of n = if n == 48 then endings.Ok else (if n == 52 then endings.Stopped whys.Device else (if n == 55 then endings.Stopped whys.Memory else endings.Stopped whys.Generation))
+
+ending-status : (e : Ending) → ending_of (status (ending_text e)) ≡ e
+unfolding status ending_of
+ending-status endings.Ok = refl
+ending-status (endings.Stopped whys.Device) = refl
+ending-status (endings.Stopped whys.Generation) = refl
+ending-status (endings.Stopped whys.Memory) = refl
+
+pub record SameReport (history other : List HistoryEntry) (ending last : Ending) : Type 0 where
+  pub entries : history ≡ other
+  pub endings_are : ending ≡ last
+
+-- a report determines the history and the ending
+pub same_report : (history other : List HistoryEntry) (ending last : Ending) → AllByRecursion IsReported history → AllByRecursion IsReported other → report history ending ≡ report other last → SameReport history other ending last
+unfolding report
+same_report [] [] ending last h k e = record { entries = refl; endings_are = sym (ending-status ending) ∙ ap (λ xs. ending_of (status xs)) e ∙ ending-status last }
+same_report [] (f ∷ other) ending last h k e = absurd (no_entry ending f (flat_map entry_text other ++ ending_text last) (e ∙ append_assoc (entry_text f) (flat_map entry_text other) (ending_text last)))
+same_report (f ∷ history) [] ending last h k e = absurd (no_entry last f (flat_map entry_text history ++ ending_text ending) (sym e ∙ append_assoc (entry_text f) (flat_map entry_text history) (ending_text ending)))
+same_report (f ∷ history) (g ∷ other) ending last h k e =
+    let first = same_entry f g (flat_map entry_text history ++ ending_text ending) (flat_map entry_text other ++ ending_text last) h.0 k.0 (sym (append_assoc (entry_text f) (flat_map entry_text history) (ending_text ending)) ∙ e ∙ append_assoc (entry_text g) (flat_map entry_text other) (ending_text last)) in
+    let others = same_report history other ending last h.1 k.1 first.after in
+    record { entries = ap₂ (λ (x : HistoryEntry) (xs : List HistoryEntry). x ∷ xs) first.value others.entries; endings_are = others.endings_are }

@@ -1,0 +1,17 @@
+-- Replies and entries as definitions see them: without the room of their bytes.
+use Rattle.std.specs.Prelude.{ℕ}
+use Rattle.zd_model.specs.Plain.{Answer}
+use Rattle.zd_model.specs.Plain.{Answer as answers}
+use Rattle.zd_model.specs.History.{HistoryEntry}
+use Rattle.zd_model.specs.declared.requests.Reply.{Reply}
+use Rattle.zd_model.specs.declared.requests.Reply.TheVariants.{Got, Done, Range, Fault}
+use Rattle.zd_model.specs.declared.requests.Entry.{Entry}
+
+abbrev pub answer_of : Reply → Answer
+answer_of (Got bytes) = answers.Got bytes.items
+answer_of Done = answers.Done
+answer_of Range = answers.Range
+answer_of Fault = answers.Fault
+
+abbrev pub entry_of : Entry → HistoryEntry
+entry_of e = record { caller = e.caller; request = e.request; piece = e.piece; what = e.what; reply = answer_of e.reply; at = e.at }

@@ -1,0 +1,80 @@
+-- When a history is one of the plain list of sectors, and when it keeps each caller's order.
+use Rattle.std.specs.Prelude.{◌≡◌, ◌⊎◌, ℕ, ◌+◌, ◌≤◌, false, ◌==◌, if◌then◌else◌, List, [], ◌∷◌, ◌++◌, length, map, fold, filter}
+use Rattle.std.specs.List.{AllByRecursion}
+use Rattle.zd_model.specs.Plain.{ends_past, reply_to, array_after}
+use Rattle.zd_model.specs.Pieces.{pieces_of}
+use Rattle.zd_model.specs.declared.requests.What.{What}
+use Rattle.zd_model.specs.declared.requests.What.TheVariants.{Read, Write, Discard, Flush}
+use Rattle.zd_model.specs.Plain.{Answer}
+use Rattle.zd_model.specs.Plain.Answer.{Done, Fault}
+use Rattle.zd_model.specs.declared.requests.Piece.{Piece}
+use Rattle.zd_model.specs.declared.requests.Request.{Request}
+
+-- a piece that was answered, when so many writing calls had returned since opening ended
+pub record HistoryEntry : Type 0 where
+  pub caller : ℕ
+  pub request : ℕ
+  pub piece : ℕ
+  pub what : What
+  pub reply : Answer
+  pub at : ℕ
+
+-- an entry changes the array where its reply is Done
+abbrev pub entry_after : List (List ℕ) → What → Answer → List (List ℕ)
+entry_after array what Done = array_after array what
+entry_after array what reply = array
+
+-- the array after the last entry
+abbrev pub last_array : List (List ℕ) → List HistoryEntry → List (List ℕ)
+last_array base history = fold (λ array e. entry_after array e.what e.reply) base history
+
+abbrev pub IsFailedFlush : HistoryEntry → Type 0
+IsFailedFlush e = (e.what ≡ Flush) × (e.reply ≡ Fault)
+
+-- which requests may fail: a read, a write that is the last entry, a flush where each later entry is a flush that fails
+abbrev pub MayFail : What → List HistoryEntry → Type 0
+MayFail (Read block count) later = Unit {0}
+MayFail (Write block count seed) later = later ≡ []
+MayFail (Discard block count) later = ⊥
+MayFail Flush later = AllByRecursion IsFailedFlush later
+
+abbrev pub Answers : List (List ℕ) → HistoryEntry → List HistoryEntry → Type 0
+Answers array e later = (e.reply ≡ reply_to array e.what) ⊎ ((e.reply ≡ Fault) × (ends_past (length array) e.what ≡ false) × MayFail e.what later)
+
+abbrev pub AllAnswer : List (List ℕ) → List HistoryEntry → Type 0
+AllAnswer array [] = Unit {0}
+AllAnswer array (e ∷ later) = Answers array e later × AllAnswer (entry_after array e.what e.reply) later
+
+-- a write in range comes after the entry before it, all others not before it
+abbrev pub waits : ℕ → What → ℕ
+waits sectors (Write block count seed) = if ends_past sectors (Write block count seed) then 0 else 1
+waits sectors what = 0
+
+abbrev pub InTime : ℕ → List HistoryEntry → Type 0
+InTime sectors [] = Unit {0}
+InTime sectors (e ∷ []) = Unit {0}
+InTime sectors (e ∷ f ∷ later) = (e.at + waits sectors f.what ≤ f.at) × InTime sectors (f ∷ later)
+
+pub record IsLegal (base : List (List ℕ)) (history : List HistoryEntry) : Type 0 where
+  pub answers : AllAnswer base history
+  pub in_time : InTime (length base) history
+
+-- what an entry and a piece have in common
+pub record Mark : Type 0 where
+  pub caller : ℕ
+  pub request : ℕ
+  pub piece : ℕ
+  pub what : What
+
+abbrev pub mark_of_piece : Piece → Mark
+mark_of_piece p = record { caller = p.caller; request = p.request; piece = p.piece; what = p.what }
+
+abbrev pub mark_of_entry : HistoryEntry → Mark
+mark_of_entry e = record { caller = e.caller; request = e.request; piece = e.piece; what = e.what }
+
+abbrev pub marks_of_caller : ℕ → List Mark → List Mark
+marks_of_caller caller marks = filter (λ m. m.caller == caller) marks
+
+-- each caller's entries are the first of its pieces, in their order
+abbrev pub IsOrdered : ℕ → ℕ → List Request → List HistoryEntry → Type 0
+IsOrdered z blocks plan history = (caller : ℕ) → (rest : List Mark) × (marks_of_caller caller (map mark_of_piece (pieces_of z blocks plan)) ≡ marks_of_caller caller (map mark_of_entry history) ++ rest)

@@ -1,0 +1,49 @@
+-- The pieces of a request, one for each chunk that it touches.
+use Rattle.std.specs.Prelude.{ℕ, ◌+◌, ◌-◌, ◌*◌, ◌/◌, min, max, if◌then◌else◌, List, [], ◌∷◌, map, flat_map}
+use Rattle.std.specs.List.{range_with_len, enumerate_from}
+use Rattle.zd_model.specs.Plain.{ends_past}
+use Rattle.zd_model.specs.declared.requests.What.{What}
+use Rattle.zd_model.specs.declared.requests.What.TheVariants.{Read, Write, Discard, Flush}
+use Rattle.zd_model.specs.declared.requests.Request.{Request}
+use Rattle.zd_model.specs.declared.requests.Piece.{Piece}
+
+-- the first block and the count; none of a flush
+abbrev pub first_block : What → ℕ
+first_block (Read block count) = block
+first_block (Write block count seed) = block
+first_block (Discard block count) = block
+first_block Flush = 0
+
+abbrev pub block_count : What → ℕ
+block_count (Read block count) = count
+block_count (Write block count seed) = count
+block_count (Discard block count) = count
+block_count Flush = 0
+
+-- the same at other blocks
+abbrev pub at_blocks : What → ℕ → ℕ → What
+at_blocks (Read block count) b n = Read b n
+at_blocks (Write block count seed) b n = Write b n seed
+at_blocks (Discard block count) b n = Discard b n
+at_blocks Flush b n = Flush
+
+-- the part in the i-th chunk of z blocks that is touched
+abbrev pub part_of : ℕ → What → ℕ → What
+part_of z what i =
+    let chunk = first_block what / z + i in
+    let from = max (first_block what) (z * chunk) in
+    at_blocks what from (min (first_block what + block_count what) (z * chunk + z) - from)
+
+abbrev pub chunks_touched : ℕ → What → ℕ
+chunks_touched z what = (first_block what + block_count what - 1) / z - first_block what / z + 1
+
+abbrev pub parts_of : ℕ → ℕ → What → List What
+parts_of z blocks Flush = Flush ∷ []
+parts_of z blocks what = if ends_past (8 * blocks) what then what ∷ [] else map (part_of z what) (range_with_len 0 (chunks_touched z what))
+
+abbrev pub pieces_of_request : ℕ → ℕ → ℕ × Request → List Piece
+pieces_of_request z blocks r = map (λ p. record { caller = r.1.caller; request = r.0; piece = p.0; what = p.1; range = ends_past (8 * blocks) r.1.what }) (enumerate_from 0 (parts_of z blocks r.1.what))
+
+-- the pieces of a plan, whose requests count from 1
+abbrev pub pieces_of : ℕ → ℕ → List Request → List Piece
+pieces_of z blocks plan = flat_map (pieces_of_request z blocks) (enumerate_from 1 plan)

@@ -1,0 +1,40 @@
+//! What a script is refused for, and how a run ends.
+
+use crate::Ending;
+
+/// Why a line is no line of a script. The first that holds is told.
+#[derive(Clone, Copy, Debug, PartialEq, Eq)]
+pub enum BadLine {
+    /// It has none of the four forms.
+    Form,
+    /// A number is out of its bounds.
+    Number,
+    /// The caller is greater than 63.
+    Caller,
+    /// With it the script passes a limit.
+    TooLong,
+}
+
+/// Why an image is no volume. The first that holds is told.
+#[derive(Clone, Copy, Debug, PartialEq, Eq)]
+pub enum NoVolume {
+    /// No set of metadata is good.
+    NoSuperBlock,
+    /// The layout doesn't fit the disk.
+    Layout,
+}
+
+/// How a run ended, as its last line tells it.
+#[derive(Clone, Copy, Debug, PartialEq, Eq)]
+pub enum Outcome {
+    /// A session ended so.
+    Ended(Ending),
+    /// The words are no command.
+    Usage,
+    /// The image is no volume.
+    NoVolume(NoVolume),
+    /// The script couldn't be read.
+    Source,
+    /// The run needs what isn't built yet.
+    NotBuilt,
+}

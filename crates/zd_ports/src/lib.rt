@@ -1,0 +1,9 @@
+//! Where scripts come from, and where reports go.
+#![tactic(auto)]
+
+mod sink;
+mod source;
+
+pub use sink::Sink;
+pub use source::Source;
+pub use zd_base::{Failed, Memory};
