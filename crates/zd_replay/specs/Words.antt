@@ -1,0 +1,15 @@
+-- Which words are a command.
+use Rattle.std.specs.Prelude.{ℕ, Bool, true, false, not, ◌&&◌, ◌==◌, IsTrue, List, [], ◌∷◌}
+
+-- it begins with a minus, and isn't a minus alone
+abbrev pub is_option : List ℕ → Bool
+is_option [] = false
+is_option (first ∷ []) = false
+is_option (first ∷ second ∷ rest) = first == 45
+
+-- an image and a script
+abbrev pub is_command : List (List ℕ) → Bool
+is_command [] = false
+is_command (image ∷ []) = false
+is_command (image ∷ script ∷ []) = not (is_option image) && not (is_option script)
+is_command (image ∷ script ∷ other ∷ others) = false

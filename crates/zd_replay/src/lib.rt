@@ -1,0 +1,4 @@
+//! Runs of scripts over a disk, from words and bytes to the report.
+#![tactic(auto)]
+
+mod words;
