@@ -1,0 +1,74 @@
+//! Map blocks: which zones each chunk of a volume has.
+//!
+//! A map block is a block of 4096 bytes with 512 entries of 8 bytes. An entry is two numbers of four
+//! bytes, little-endian: the chunk's zone, then its buffer zone. 0xFFFFFFFF is none. Every block of
+//! 4096 bytes is a map block.
+#![tactic(auto)]
+
+ghost use Rattle.std.specs.Prelude.{◌≡◌, ◌+◌, ◌≤◌, ◌<◌, length};
+ghost use Rattle.zd_model.specs.Bytes.{u32_at};
+ghost use Rattle.zd_model.specs.Tables.{entry_at, named};
+
+use byteorder::{ByteOrder, LittleEndian};
+pub use zd_base::ZoneNo;
+pub use zd_model::MapEntry;
+
+/// The bytes of an entry.
+const ENTRY: usize = 8;
+
+/// The number that stands for no zone.
+const NONE: u32 = 0xFFFF_FFFF;
+
+/// Entry `i` of a map block: the zones of the chunk whose place in the block is `i`.
+pub fn get(block: &[u8], i: usize) -> MapEntry
+    requires size { length block.now ≡ 4096 }
+    requires entry { i < 512 }
+    ensures { result ≡ entry_at block.now i }
+{
+    MapEntry {
+        zone: zone_at(block, ENTRY * i),
+        buffer: zone_at(block, ENTRY * i + 4),
+    }
+}
+
+/// The zone whose number stands at byte `at`.
+#[tactic(auto, unfolding(zd_model::specs::Bytes::u32_at))]
+fn zone_at(block: &[u8], at: usize) -> Option<ZoneNo>
+    requires { at + 4 ≤ length block.now }
+    ensures { result ≡ named (u32_at block.now at) }
+{
+    let number = LittleEndian::read_u32(&block[at..at + 4]);
+    if number == NONE {
+        None
+    } else {
+        Some(ZoneNo(number))
+    }
+}
+
+#[cfg(test)]
+mod tests {
+    use super::*;
+
+    fn entry(zone: Option<u32>, buffer: Option<u32>) -> MapEntry {
+        MapEntry {
+            zone: zone.map(|number| ZoneNo(number)),
+            buffer: buffer.map(|number| ZoneNo(number)),
+        }
+    }
+
+    /// A map block whose chunk 1 has zone 6, and chunk 511 zone 6 and buffer 4.
+    fn map_block() -> [u8; 4096] {
+        let mut block = [0xFF; 4096];
+        block[8..16].copy_from_slice(&[6, 0, 0, 0, 0xFF, 0xFF, 0xFF, 0xFF]);
+        block[4088..4096].copy_from_slice(&[6, 0, 0, 0, 4, 0, 0, 0]);
+        block
+    }
+
+    #[test]
+    fn reads_unmapped_mapped_and_buffered_entries(rt: HostRuntime) {
+        let block = map_block();
+        assert_eq!(rt; get(&block, 0), entry(None, None));
+        assert_eq!(rt; get(&block, 1), entry(Some(6), None));
+        assert_eq!(rt; get(&block, 511), entry(Some(6), Some(4)));
+    }
+}
