@@ -1,5 +1,6 @@
 pub mod Room
 pub mod Bytes
+pub mod Lending
 pub mod Crc
 pub mod Super
 pub mod Tables

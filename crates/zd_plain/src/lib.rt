@@ -1,0 +1,14 @@
+//! Plans and the pieces that they are cut into, the patterns of sectors, and histories.
+#![tactic(auto)]
+
+mod history;
+mod plan;
+mod what;
+mod words;
+
+pub use history::History;
+pub use plan::Plan;
+pub use what::{at_blocks, block_count, ends_past, first_block};
+pub use words::pattern;
+pub use zd_base::{Memory, Why};
+pub use zd_model::{Bytes, Ending, Entry, Piece, Reply, Request, What};
