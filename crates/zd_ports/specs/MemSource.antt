@@ -1,5 +1,6 @@
 -- A source in memory, as contracts see it.
 use Rattle.std.specs.Prelude.{◌≡◌, ℕ, List}
+use Rattle.zd_ports.specs.Ports.{next_call}
 
 -- the bytes that are left, the most that a call gives, the numbers of the calls that fail, and the counts so far
 pub record Supply : Type 0 where
@@ -9,7 +10,8 @@ pub record Supply : Type 0 where
   pub calls : ℕ
   pub faults : ℕ
 
--- what no call changes
-pub record SameTerms (old new : Supply) : Type 0 where
+-- one more call, under the same terms
+pub record CountsRead (old new : Supply) : Type 0 where
+  pub calls : new.calls ≡ next_call old.calls
   pub most : new.most ≡ old.most
   pub fails : new.fails ≡ old.fails

@@ -9,6 +9,8 @@ mod paths;
 mod sink;
 mod source;
 mod std_ports;
+#[cfg(test)]
+mod tests;
 
 pub use mem_sink::MemSink;
 pub use mem_source::MemSource;

@@ -2,7 +2,7 @@
 
 ghost use Rattle.std.specs.Prelude.{◌≡◌, ◌+◌, ◌<◌, ◌≤◌, ◌++◌, ℕ, List, [], Some, length, take, Contains, IsOk, IsErr, IfOk, OnOk, OnErr, MatchResult};
 ghost use Rattle.zd_base.specs.Faults.{HasCause};
-ghost use Rattle.zd_ports.specs.Ports.{next_call};
+ghost use Rattle.zd_ports.specs.MemSink.{CountsWrite, Took, TookNothing};
 
 use crate::Sink;
 use crate::faults::raise;
@@ -83,16 +83,13 @@ impl Sink for MemSink {
     fn write(&mut self, piece: &[u8]) -> Result<usize, Failed>
         requires { 0 < length piece.now }
         ensures value { IfOk result (λ n. n ≡ length piece.now) }
-        ensures bytes { OnOk result (self.new.held ≡ self.old.held ++ piece.now) }
-        ensures err { OnErr result (self.new.held ≡ self.old.held) }
+        ensures ok { OnOk result (Took piece.now self.old self.new) }
+        ensures err { OnErr result (TookNothing self.old self.new) }
         ensures listed { Contains self.old.fails self.new.calls → IsErr result }
         ensures within { ¬ Contains self.old.fails self.new.calls
             → length piece.now ≤ self.old.room → IsOk result }
-        ensures room { MatchResult result (λ n. self.old.room ≤ self.new.room + n)
-            (λ _. self.old.room ≤ self.new.room) }
-        ensures calls { self.new.calls ≡ next_call self.old.calls }
+        ensures calls { CountsWrite self.old self.new }
         ensures cause { HasCause self.old.faults self.new.faults result }
-        ensures same { self.new.fails ≡ self.old.fails }
     {
         self.calls = self.calls.saturating_add(1);
         if self.fails.contains(&self.calls) {

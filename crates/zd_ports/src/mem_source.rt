@@ -1,9 +1,9 @@
 //! A source in memory.
 
-ghost use Rattle.std.specs.Prelude.{◌≡◌, ◌<◌, ◌≤◌, ◌↔◌, ℕ, List, [], Some, length, take, min, Contains, IsErr, IfOk, OnErr};
+ghost use Rattle.std.specs.Prelude.{◌≡◌, ◌<◌, ◌≤◌, ◌↔◌, ℕ, List, [], Some, length, take, min, Contains, IsErr, IfOk, OnOk, OnErr};
 ghost use Rattle.zd_base.specs.Faults.{HasCause};
-ghost use Rattle.zd_ports.specs.MemSource.{SameTerms};
-ghost use Rattle.zd_ports.specs.Ports.{Gives, next_call};
+ghost use Rattle.zd_ports.specs.MemSource.{CountsRead};
+ghost use Rattle.zd_ports.specs.Ports.{Gives};
 
 use crate::Source;
 use crate::faults::raise;
@@ -89,9 +89,9 @@ impl Source for MemSource {
         ensures bytes { IfOk result (λ n. Gives self.old.left (Some self.new.left) n into.new) }
         ensures err { OnErr result (self.new.left ≡ self.old.left) }
         ensures listed { IsErr result ↔ Contains self.old.fails self.new.calls }
-        ensures calls { self.new.calls ≡ next_call self.old.calls }
+        ensures calls { CountsRead self.old self.new }
+        ensures faults { OnOk result (self.new.faults ≡ self.old.faults) }
         ensures cause { HasCause self.old.faults self.new.faults result }
-        ensures same { SameTerms self.old self.new }
     {
         self.calls = self.calls.saturating_add(1);
         if self.fails.contains(&self.calls) {
