@@ -1,5 +1,5 @@
--- What a source gives.
-use Rattle.std.specs.Prelude.{◌≡◌, ℕ, ◌≤◌, Option, Some, List, [], length, take, drop}
+-- What a source gives, and how calls are counted.
+use Rattle.std.specs.Prelude.{◌≡◌, ℕ, ◌+◌, ◌-◌, ◌≤◌, ◌^◌, min, Option, Some, List, [], length, take, drop}
 
 -- n of the bytes that were left stand in front of the buffer, and the others are left; none only at the end
 pub record Gives (bytes : List ℕ) (after : Option (List ℕ)) (n : ℕ) (into : List ℕ) : Type 0 where
@@ -7,3 +7,7 @@ pub record Gives (bytes : List ℕ) (after : Option (List ℕ)) (n : ℕ) (into 
   pub read : take n into ≡ take n bytes
   pub rest : after ≡ Some (drop n bytes)
   pub end : n ≡ 0 → bytes ≡ []
+
+-- the number of the next call, from 1, in a count of 64 bits that stays at its end
+abbrev pub next_call : ℕ → ℕ
+next_call calls = min (calls + 1) (2 ^ 64 - 1)

@@ -1,12 +1,12 @@
-//! The files of a command.
+//! The files that a command names.
 
-/// The words that stand for files in a command line. All are none where the words are no command.
-#[derive(Clone, Copy, Debug, PartialEq, Eq)]
+/// The files that the words of a command name, each where they name one.
+#[derive(Clone, Copy, Debug, Default, PartialEq, Eq)]
 pub struct Paths<'a> {
-    /// The image of the disk.
+    /// The image of a zoned disk.
     pub image: Option<&'a str>,
-    /// The script; `-` is standard input.
+    /// The script of requests; `-` is standard input.
     pub script: Option<&'a str>,
-    /// The image of the disk in front.
+    /// The image of a front disk.
     pub front: Option<&'a str>,
 }
