@@ -14,6 +14,9 @@ use Rattle.zd_model.specs.Plain.{Answer as replies}
 use Rattle.zd_model.specs.History.{HistoryEntry}
 use Rattle.zd_model.specs.declared.requests.Ending.{Ending}
 use Rattle.zd_model.specs.declared.requests.Ending.TheVariants as endings
+use Rattle.zd_model.specs.declared.texts.Outcome.{Outcome}
+use Rattle.zd_model.specs.declared.texts.Outcome.TheVariants as outcomes
+use Rattle.zd_model.specs.declared.texts.NoVolume.TheVariants as volumes
 use Rattle.zd_base.specs.declared.numbers.Why.TheVariants as whys
 
 -- zeros, the pattern of a seed, and any other sector, with how many there are in a row
@@ -70,5 +73,31 @@ ending_text (endings.Stopped whys.Device) = codes "end 4 device\n"
 ending_text (endings.Stopped whys.Memory) = codes "end 7 memory\n"
 ending_text (endings.Stopped whys.Generation) = codes "end 8 generation\n"
 
+-- the lines of the entries in their order, then the line of the ending
 unfoldable pub report : List HistoryEntry → Ending → List ℕ
 report history ending = flat_map entry_text history ++ ending_text ending
+
+-- the exit status of a run that ended so
+abbrev pub status_of : Outcome → ℕ
+status_of (outcomes.Ended endings.Ok) = 0
+status_of (outcomes.Ended (endings.Stopped whys.Device)) = 4
+status_of (outcomes.Ended (endings.Stopped whys.Memory)) = 7
+status_of (outcomes.Ended (endings.Stopped whys.Generation)) = 8
+status_of outcomes.Usage = 1
+status_of (outcomes.NoVolume why) = 3
+status_of outcomes.Source = 5
+status_of outcomes.NotBuilt = 11
+
+-- the last line of a run's output; that of a session's ending is the ending's
+abbrev pub outcome_text : Outcome → List ℕ
+outcome_text (outcomes.Ended ending) = ending_text ending
+outcome_text outcomes.Usage = codes "end 1 usage\n"
+outcome_text (outcomes.NoVolume volumes.NoSuperBlock) = codes "end 3 volume no-super-block\n"
+outcome_text (outcomes.NoVolume volumes.Layout) = codes "end 3 volume layout\n"
+outcome_text outcomes.Source = codes "end 5 source\n"
+outcome_text outcomes.NotBuilt = codes "end 11 not-built\n"
+
+-- all that a run prints: the lines of its entries, then that of its outcome. Where a session ended,
+-- it is the report
+unfoldable pub output : List HistoryEntry → Outcome → List ℕ
+output history outcome = flat_map entry_text history ++ outcome_text outcome
