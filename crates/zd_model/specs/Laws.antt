@@ -12,7 +12,9 @@ use Rattle.zd_model.specs.Plain.{ends_past}
 use Rattle.zd_model.specs.Pieces.{first_block, block_count, pieces_of_request}
 use Rattle.zd_model.specs.Cut.{IsCut, Moves}
 use Rattle.zd_model.specs.Script.{IsScript, Refuses}
-use Rattle.zd_model.specs.Report.{IsReported, report}
+use Rattle.zd_model.specs.Report.{IsReported, output, report}
+use Rattle.zd_model.specs.declared.texts.Outcome.{Outcome}
+use Rattle.zd_model.specs.declared.texts.Outcome.TheVariants as outcomes
 use Rattle.zd_model.specs.declared.metadata.Super.{Super}
 use Rattle.zd_model.specs.declared.requests.Request.{Request}
 use Rattle.zd_model.specs.declared.requests.Piece.{Piece}
@@ -45,6 +47,17 @@ OneScriptHasOnePlan = (bytes : List ℕ) (plan other : List Request) → IsScrip
 -- a report is that of one history and one ending
 abbrev pub OneReportHasOneHistory : Type 0
 OneReportHasOneHistory = (history other : List HistoryEntry) (ending last : Ending) → AllByRecursion IsReported history → AllByRecursion IsReported other → report history ending ≡ report other last → (history ≡ other) × (ending ≡ last)
+
+-- an output is that of one history and one outcome
+abbrev pub OneOutputHasOneHistory : Type 0
+OneOutputHasOneHistory = (history other : List HistoryEntry) (outcome last : Outcome) →
+    AllByRecursion IsReported history → AllByRecursion IsReported other →
+    output history outcome ≡ output other last → (history ≡ other) × (outcome ≡ last)
+
+-- a report is the output of a session's ending
+abbrev pub AReportIsAnOutput : Type 0
+AReportIsAnOutput = (history : List HistoryEntry) (ending : Ending) →
+    report history ending ≡ output history (outcomes.Ended ending)
 
 -- a map in which no chunk is bad follows the rules of a map
 abbrev pub NoBadChunkIsRight : Type 0

@@ -11,7 +11,7 @@ ghost use Rattle.zd_model.specs.Text.{numeral};
 ghost use Rattle.zd_model.specs.Report.{report};
 ghost use Rattle.zd_model.specs.Examples.{fresh_head, two_chunks_plan, two_chunks_pieces, request, piece, empty_volume_history, last_block_history, two_chunks_history, discard_history, zero_volume, rewritten_history, fresh_image, fresh_layout, fresh_chosen, small, only, buffered};
 ghost use Rattle.zd_model.specs.Faults.{bad_bit, bad_chunk};
-ghost use Rattle.zd_model.specs.Laws.{EachRecordHasABlock, OneRecordHasOneBlock, OneBlockHasOneRecord, DecodesToItsRecord, PiecesCutARequest, NoBadChunkIsRight, OneTextHasOneRefusal, OneScriptHasOnePlan, OneReportHasOneHistory};
+ghost use Rattle.zd_model.specs.Laws.{EachRecordHasABlock, OneRecordHasOneBlock, OneBlockHasOneRecord, DecodesToItsRecord, PiecesCutARequest, NoBadChunkIsRight, OneTextHasOneRefusal, OneScriptHasOnePlan, OneReportHasOneHistory, OneOutputHasOneHistory, AReportIsAnOutput};
 ghost use Rattle.zd_model.specs.Stops.{MayHold};
 ghost use Rattle.zd_model.specs.Script.{IsScript, Refuses};
 ghost use Rattle.zd_base.specs.Layout.{Fits};
@@ -149,5 +149,7 @@ pub fn laws()
     ensures map { NoBadChunkIsRight }
     ensures script { OneScriptHasOnePlan }
     ensures refusal { OneTextHasOneRefusal }
+    ensures output { OneOutputHasOneHistory }
     ensures report { OneReportHasOneHistory }
+    ensures ended { AReportIsAnOutput }
 {}
