@@ -5,7 +5,7 @@ use Rattle.std.specs.List.{AllByRecursion, join_with_byte, flat_map}
 use Rattle.zd_model.specs.Text.{numeral}
 use Rattle.zd_model.specs.Pieces.{first_block}
 use Rattle.zd_model.specs.Script.{letter, numbers_of}
-use Rattle.zd_model.specs.Report.{items_text, reply_text, entry_text, ending_text, report, HasReply, IsReported}
+use Rattle.zd_model.specs.Report.{items_text, reply_text, entry_text, outcome_text, output, report, HasReply, IsReported}
 use Rattle.zd_model.specs.declared.requests.What.{What}
 use Rattle.zd_model.specs.declared.requests.What.TheVariants.{Read, Write, Discard, Flush}
 use Rattle.zd_model.specs.Plain.{Answer}
@@ -13,6 +13,9 @@ use Rattle.zd_model.specs.Plain.Answer.{Got, Done, Range, Fault}
 use Rattle.zd_model.specs.History.{HistoryEntry}
 use Rattle.zd_model.specs.declared.requests.Ending.{Ending}
 use Rattle.zd_model.specs.declared.requests.Ending.TheVariants as endings
+use Rattle.zd_model.specs.declared.texts.Outcome.{Outcome}
+use Rattle.zd_model.specs.declared.texts.Outcome.TheVariants as outcomes
+use Rattle.zd_model.specs.declared.texts.NoVolume.TheVariants as volumes
 use Rattle.zd_base.specs.declared.numbers.Why.TheVariants as whys
 use Rattle.zd_model.proofs.TextLaws.{IsDigit, same_numeral, head_is, tail_is, numeral_head}
 use Rattle.zd_model.proofs.LineLaws.{what_is}
@@ -142,32 +145,74 @@ record Ends (xs : List ℕ) : Type 0 where
   pub after : List ℕ
   pub is : xs ≡ 101 ∷ after
 
-ends : (e : Ending) → Ends (ending_text e)
-ends endings.Ok = record { after = _; is = refl }
-ends (endings.Stopped whys.Device) = record { after = _; is = refl }
-ends (endings.Stopped whys.Generation) = record { after = _; is = refl }
-ends (endings.Stopped whys.Memory) = record { after = _; is = refl }
+ends : (o : Outcome) → Ends (outcome_text o)
+ends (outcomes.Ended endings.Ok) = record { after = _; is = refl }
+ends (outcomes.Ended (endings.Stopped whys.Device)) = record { after = _; is = refl }
+ends (outcomes.Ended (endings.Stopped whys.Generation)) = record { after = _; is = refl }
+ends (outcomes.Ended (endings.Stopped whys.Memory)) = record { after = _; is = refl }
+ends outcomes.Usage = record { after = _; is = refl }
+ends (outcomes.NoVolume volumes.NoSuperBlock) = record { after = _; is = refl }
+ends (outcomes.NoVolume volumes.Layout) = record { after = _; is = refl }
+ends outcomes.Source = record { after = _; is = refl }
+ends outcomes.NotBuilt = record { after = _; is = refl }
 
-no_entry : (e : Ending) (f : HistoryEntry) (rest : List ℕ) → ending_text e ≡ entry_text f ++ rest → ⊥
+no_entry : (o : Outcome) (f : HistoryEntry) (rest : List ℕ) → outcome_text o ≡ entry_text f ++ rest → ⊥
 unfolding line_parts
-no_entry e f rest eq =
-    let front = numeral_head f.caller 101 _ (ends e).after (sym (entry_split f rest) ∙ sym eq ∙ (ends e).is) in
+no_entry o f rest eq =
+    let front = numeral_head f.caller 101 _ (ends o).after (sym (entry_split f rest) ∙ sym eq ∙ (ends o).is) in
     let high = front.high in
     omega arith
 
--- the status behind `end `
-status : List ℕ → ℕ
-status xs = get_or xs 4 0
+-- the outcome by the status behind `end `, and the first letter behind `volume `
+stopped_by : ℕ → Outcome
+stopped_by n = outcomes.Ended (endings.Stopped (if n == 52 then whys.Device else (if n == 55 then whys.Memory else whys.Generation)))
 
-ending_of : ℕ → Ending
-ending_of n = if n == 48 then endings.Ok else (if n == 52 then endings.Stopped whys.Device else (if n == 55 then endings.Stopped whys.Memory else endings.Stopped whys.Generation))
+outcome_by : ℕ → ℕ → ℕ → Outcome
+outcome_by status next letter =
+    if status == 48 then outcomes.Ended endings.Ok else
+    (if status == 49 then (if next == 49 then outcomes.NotBuilt else outcomes.Usage) else
+    (if status == 51 then outcomes.NoVolume (if letter == 110 then volumes.NoSuperBlock else volumes.Layout) else
+    (if status == 53 then outcomes.Source else stopped_by status)))
 
-ending-status : (e : Ending) → ending_of (status (ending_text e)) ≡ e
-unfolding status ending_of
-ending-status endings.Ok = refl
-ending-status (endings.Stopped whys.Device) = refl
-ending-status (endings.Stopped whys.Generation) = refl
-ending-status (endings.Stopped whys.Memory) = refl
+outcome_of : List ℕ → Outcome
+outcome_of xs = outcome_by (get_or xs 4 0) (get_or xs 5 0) (get_or xs 13 0)
+
+-- the text determines the outcome
+outcome-text : (o : Outcome) → outcome_of (outcome_text o) ≡ o
+unfolding outcome_of outcome_by stopped_by
+outcome-text (outcomes.Ended endings.Ok) = refl
+outcome-text (outcomes.Ended (endings.Stopped whys.Device)) = refl
+outcome-text (outcomes.Ended (endings.Stopped whys.Generation)) = refl
+outcome-text (outcomes.Ended (endings.Stopped whys.Memory)) = refl
+outcome-text outcomes.Usage = refl
+outcome-text (outcomes.NoVolume volumes.NoSuperBlock) = refl
+outcome-text (outcomes.NoVolume volumes.Layout) = refl
+outcome-text outcomes.Source = refl
+outcome-text outcomes.NotBuilt = refl
+
+pub record SameOutput (history other : List HistoryEntry) (outcome last : Outcome) : Type 0 where
+  pub entries : history ≡ other
+  pub outcomes_are : outcome ≡ last
+
+-- an output determines the history and the outcome
+pub same_output : (history other : List HistoryEntry) (outcome last : Outcome) → AllByRecursion IsReported history → AllByRecursion IsReported other → output history outcome ≡ output other last → SameOutput history other outcome last
+unfolding output
+same_output [] [] outcome last h k e = record { entries = refl; outcomes_are = sym (outcome-text outcome) ∙ ap outcome_of e ∙ outcome-text last }
+same_output [] (f ∷ other) outcome last h k e = absurd (no_entry outcome f (flat_map entry_text other ++ outcome_text last) (e ∙ append_assoc (entry_text f) (flat_map entry_text other) (outcome_text last)))
+same_output (f ∷ history) [] outcome last h k e = absurd (no_entry last f (flat_map entry_text history ++ outcome_text outcome) (sym e ∙ append_assoc (entry_text f) (flat_map entry_text history) (outcome_text outcome)))
+same_output (f ∷ history) (g ∷ other) outcome last h k e =
+    let first = same_entry f g (flat_map entry_text history ++ outcome_text outcome) (flat_map entry_text other ++ outcome_text last) h.0 k.0 (sym (append_assoc (entry_text f) (flat_map entry_text history) (outcome_text outcome)) ∙ e ∙ append_assoc (entry_text g) (flat_map entry_text other) (outcome_text last)) in
+    let others = same_output history other outcome last h.1 k.1 first.after in
+    record { entries = ap₂ (λ (x : HistoryEntry) (xs : List HistoryEntry). x ∷ xs) first.value others.entries; outcomes_are = others.outcomes_are }
+
+-- a report is the output of a session's ending
+pub report_output : (history : List HistoryEntry) (ending : Ending) → report history ending ≡ output history (outcomes.Ended ending)
+unfolding report output
+report_output history ending = refl
+
+ending_of : Outcome → Ending
+ending_of (outcomes.Ended ending) = ending
+ending_of outcome = endings.Ok
 
 pub record SameReport (history other : List HistoryEntry) (ending last : Ending) : Type 0 where
   pub entries : history ≡ other
@@ -175,11 +220,7 @@ pub record SameReport (history other : List HistoryEntry) (ending last : Ending)
 
 -- a report determines the history and the ending
 pub same_report : (history other : List HistoryEntry) (ending last : Ending) → AllByRecursion IsReported history → AllByRecursion IsReported other → report history ending ≡ report other last → SameReport history other ending last
-unfolding report
-same_report [] [] ending last h k e = record { entries = refl; endings_are = sym (ending-status ending) ∙ ap (λ xs. ending_of (status xs)) e ∙ ending-status last }
-same_report [] (f ∷ other) ending last h k e = absurd (no_entry ending f (flat_map entry_text other ++ ending_text last) (e ∙ append_assoc (entry_text f) (flat_map entry_text other) (ending_text last)))
-same_report (f ∷ history) [] ending last h k e = absurd (no_entry last f (flat_map entry_text history ++ ending_text ending) (sym e ∙ append_assoc (entry_text f) (flat_map entry_text history) (ending_text ending)))
-same_report (f ∷ history) (g ∷ other) ending last h k e =
-    let first = same_entry f g (flat_map entry_text history ++ ending_text ending) (flat_map entry_text other ++ ending_text last) h.0 k.0 (sym (append_assoc (entry_text f) (flat_map entry_text history) (ending_text ending)) ∙ e ∙ append_assoc (entry_text g) (flat_map entry_text other) (ending_text last)) in
-    let others = same_report history other ending last h.1 k.1 first.after in
-    record { entries = ap₂ (λ (x : HistoryEntry) (xs : List HistoryEntry). x ∷ xs) first.value others.entries; endings_are = others.endings_are }
+unfolding ending_of
+same_report history other ending last h k e =
+    let same = same_output history other (outcomes.Ended ending) (outcomes.Ended last) h k (sym (report_output history ending) ∙ e ∙ report_output other last) in
+    record { entries = same.entries; endings_are = ap ending_of same.outcomes_are }

@@ -12,4 +12,8 @@ Moves what = Unit {0}
 -- the parts go from one block up to another; chunks have z blocks
 abbrev pub IsCut : ℕ → ℕ → ℕ → List What → Type 0
 IsCut z from to [] = from ≡ to
-IsCut z from to (p ∷ parts) = (first_block p ≡ from) × (1 ≤ block_count p) × (from / z ≡ (from + block_count p - 1) / z) × IsCut z (from + block_count p) to parts
+IsCut z from to (p ∷ parts) =
+    (first_block p ≡ from)
+    × (1 ≤ block_count p)
+    × (from / z ≡ (from + block_count p - 1) / z)
+    × IsCut z (from + block_count p) to parts

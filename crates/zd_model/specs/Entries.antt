@@ -7,11 +7,20 @@ use Rattle.zd_model.specs.declared.requests.Reply.{Reply}
 use Rattle.zd_model.specs.declared.requests.Reply.TheVariants.{Got, Done, Range, Fault}
 use Rattle.zd_model.specs.declared.requests.Entry.{Entry}
 
+-- a read's bytes without their room
 abbrev pub answer_of : Reply → Answer
 answer_of (Got bytes) = answers.Got bytes.items
 answer_of Done = answers.Done
 answer_of Range = answers.Range
 answer_of Fault = answers.Fault
 
+-- an entry with its answer so
 abbrev pub entry_of : Entry → HistoryEntry
-entry_of e = record { caller = e.caller; request = e.request; piece = e.piece; what = e.what; reply = answer_of e.reply; at = e.at }
+entry_of e = record {
+  caller = e.caller;
+  request = e.request;
+  piece = e.piece;
+  what = e.what;
+  reply = answer_of e.reply;
+  at = e.at;
+}

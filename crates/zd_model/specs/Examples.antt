@@ -1,5 +1,6 @@
 -- The volume of the worked examples: zones of 16 blocks, 6 conventional and 6 sequential.
-use Rattle.std.specs.Prelude.{ℕ, ◌*◌, ◌==◌, if◌then◌else◌, nat_lt, slice_index_or, Some, None, Bool, false, List, [], ◌∷◌, ◌++◌, replicate, flat_map}
+use Rattle.std.specs.Prelude.{ℕ, ◌*◌, ◌==◌, if◌then◌else◌, nat_lt, slice_index_or, Some, None, Bool}
+use Rattle.std.specs.Prelude.{false, List, [], ◌∷◌, ◌++◌, replicate, flat_map}
 use Rattle.std.specs.List.{range_with_len}
 use Rattle.zd_model.specs.Plain.{pattern}
 use Rattle.zd_model.specs.declared.requests.What.{What}

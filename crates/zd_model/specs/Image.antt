@@ -1,4 +1,5 @@
--- What a disk holds. A conventional zone holds all its sectors, a sequential one those below its pointer.
+-- What a disk holds. A conventional zone holds all its sectors, a sequential one those below its
+-- pointer.
 use Rattle.std.specs.Prelude.{◌≡◌, ℕ, ◌+◌, ◌*◌, ◌/◌, ◌%◌, ◌<◌, ◌≤◌, List, length, map, All}
 use Rattle.std.specs.List.{concat, range_with_len}
 use Rattle.zd_base.specs.Geometry.{Shape}
@@ -11,9 +12,12 @@ pub record Image : Type 0 where
 
 -- each zone stands there, in sectors of 512 bytes
 pub record IsImage (image : Image) : Type 0 where
-  pub sectors : (z i : ℕ) → i < image.held z → (length (image.sector z i) ≡ 512) × All (λ b. b < 256) (image.sector z i)
-  pub conventional : (z : ℕ) → z < image.geometry.conv → image.held z ≡ 8 * image.geometry.zone_blocks
-  pub sequential : (z : ℕ) → image.geometry.conv ≤ z → image.held z ≤ 8 * image.geometry.zone_blocks
+  pub sectors : (z i : ℕ) → i < image.held z →
+      (length (image.sector z i) ≡ 512) × All (λ b. b < 256) (image.sector z i)
+  pub conventional : (z : ℕ) → z < image.geometry.conv →
+      image.held z ≡ 8 * image.geometry.zone_blocks
+  pub sequential : (z : ℕ) → image.geometry.conv ≤ z →
+      image.held z ≤ 8 * image.geometry.zone_blocks
 
 -- the bytes of n sectors from start on
 abbrev pub run_of : (ℕ → List ℕ) → ℕ → ℕ → List ℕ
@@ -23,9 +27,10 @@ run_of sector start n = concat (map sector (range_with_len start n))
 abbrev pub block_at : Image → ℕ → ℕ → List ℕ
 block_at image zone x = run_of (image.sector zone) (8 * x) 8
 
--- block k of the set of metadata that begins in this zone
+-- block k of the set of metadata that begins in this zone; a set may take several zones
 abbrev pub set_block : Image → ℕ → ℕ → List ℕ
-set_block image first k = block_at image (first + k / image.geometry.zone_blocks) (k % image.geometry.zone_blocks)
+set_block image first k =
+    block_at image (first + k / image.geometry.zone_blocks) (k % image.geometry.zone_blocks)
 
 -- the zone holds the same in both
 pub record SameZone (old new : Image) (z : ℕ) : Type 0 where

@@ -12,7 +12,9 @@ use Rattle.zd_model.specs.Plain.{ends_past}
 use Rattle.zd_model.specs.Pieces.{first_block, block_count, pieces_of_request}
 use Rattle.zd_model.specs.Cut.{IsCut, Moves}
 use Rattle.zd_model.specs.Script.{IsScript, Refuses}
-use Rattle.zd_model.specs.Report.{IsReported, report}
+use Rattle.zd_model.specs.Report.{IsReported, output, report}
+use Rattle.zd_model.specs.declared.texts.Outcome.{Outcome}
+use Rattle.zd_model.specs.declared.texts.Outcome.TheVariants as outcomes
 use Rattle.zd_model.specs.declared.metadata.Super.{Super}
 use Rattle.zd_model.specs.declared.requests.Request.{Request}
 use Rattle.zd_model.specs.declared.requests.Piece.{Piece}
@@ -20,36 +22,60 @@ use Rattle.zd_model.specs.History.{HistoryEntry}
 use Rattle.zd_model.specs.declared.texts.BadLine.{BadLine}
 use Rattle.zd_model.specs.declared.requests.Ending.{Ending}
 
--- each record with fields of their sizes has a block, which is the only one, and a block has one record
+-- each record with fields of their sizes has a block
 abbrev pub EachRecordHasABlock : Type 0
 EachRecordHasABlock = (s : Super) → HasSizes s → IsSuper (block_of s) s
 
+-- which is the only one
 abbrev pub OneRecordHasOneBlock : Type 0
 OneRecordHasOneBlock = (a b : List ℕ) (s : Super) → IsSuper a s → IsSuper b s → a ≡ b
 
+-- and a block has one record
 abbrev pub OneBlockHasOneRecord : Type 0
-OneBlockHasOneRecord = (block : List ℕ) (s t : Super) → IsSuper block s → IsSuper block t → s ≡ t
+OneBlockHasOneRecord =
+    (block : List ℕ) (s t : Super) → IsSuper block s → IsSuper block t → s ≡ t
 
 -- a block decodes to the record for which it stands, and to no other
 abbrev pub DecodesToItsRecord : Type 0
-DecodesToItsRecord = (block : List ℕ) (s : Super) → AreBytes 4096 block → (decoded block ≡ Ok s) ↔ IsSuper block s
+DecodesToItsRecord =
+    (block : List ℕ) (s : Super) → AreBytes 4096 block → (decoded block ≡ Ok s) ↔ IsSuper block s
 
 -- the pieces of a request follow each other, cover it, and lie in one chunk each
 abbrev pub PiecesCutARequest : Type 0
-PiecesCutARequest = (z blocks n : ℕ) (r : Request) → 1 ≤ z → Moves r.what → 1 ≤ block_count r.what → ends_past (8 * blocks) r.what ≡ false → IsCut z (first_block r.what) (first_block r.what + block_count r.what) (map (λ (p : Piece). p.what) (pieces_of_request z blocks (n, r)))
+PiecesCutARequest = (z blocks n : ℕ) (r : Request) →
+    1 ≤ z → Moves r.what → 1 ≤ block_count r.what → ends_past (8 * blocks) r.what ≡ false →
+    IsCut z (first_block r.what) (first_block r.what + block_count r.what)
+    (map (λ (p : Piece). p.what) (pieces_of_request z blocks (n, r)))
 
 -- a script is that of one plan
 abbrev pub OneScriptHasOnePlan : Type 0
-OneScriptHasOnePlan = (bytes : List ℕ) (plan other : List Request) → IsScript bytes plan → IsScript bytes other → plan ≡ other
+OneScriptHasOnePlan = (bytes : List ℕ) (plan other : List Request) →
+    IsScript bytes plan → IsScript bytes other → plan ≡ other
 
 -- a report is that of one history and one ending
 abbrev pub OneReportHasOneHistory : Type 0
-OneReportHasOneHistory = (history other : List HistoryEntry) (ending last : Ending) → AllByRecursion IsReported history → AllByRecursion IsReported other → report history ending ≡ report other last → (history ≡ other) × (ending ≡ last)
+OneReportHasOneHistory = (history other : List HistoryEntry) (ending last : Ending) →
+    AllByRecursion IsReported history → AllByRecursion IsReported other →
+    report history ending ≡ report other last → (history ≡ other) × (ending ≡ last)
+
+-- an output is that of one history and one outcome
+abbrev pub OneOutputHasOneHistory : Type 0
+OneOutputHasOneHistory = (history other : List HistoryEntry) (outcome last : Outcome) →
+    AllByRecursion IsReported history → AllByRecursion IsReported other →
+    output history outcome ≡ output other last → (history ≡ other) × (outcome ≡ last)
+
+-- a report is the output of a session's ending
+abbrev pub AReportIsAnOutput : Type 0
+AReportIsAnOutput = (history : List HistoryEntry) (ending : Ending) →
+    report history ending ≡ output history (outcomes.Ended ending)
 
 -- a map in which no chunk is bad follows the rules of a map
 abbrev pub NoBadChunkIsRight : Type 0
-NoBadChunkIsRight = (g : Shape) (l : Layout) (entries : List MapEntry) → bad_chunk g l [] 0 entries ≡ None → MapFollowsRules g l entries
+NoBadChunkIsRight = (g : Shape) (l : Layout) (entries : List MapEntry) →
+    bad_chunk g l [] 0 entries ≡ None → MapFollowsRules g l entries
 
--- bytes that are refused are no script, and are refused in one line by one rule
+-- bytes that are refused are no script, and are refused in one line for one rule
 abbrev pub OneTextHasOneRefusal : Type 0
-OneTextHasOneRefusal = (bytes : List ℕ) (plan : List Request) (m n : ℕ) (why other : BadLine) → Refuses bytes m why → (IsScript bytes plan → ⊥) × (Refuses bytes n other → (m ≡ n) × (why ≡ other))
+OneTextHasOneRefusal =
+    (bytes : List ℕ) (plan : List Request) (m n : ℕ) (why other : BadLine) → Refuses bytes m why →
+    (IsScript bytes plan → ⊥) × (Refuses bytes n other → (m ≡ n) × (why ≡ other))

@@ -1,5 +1,6 @@
 -- What a sector may hold after a stop at call k.
-use Rattle.std.specs.Prelude.{◌≡◌, ◌⊎◌, ℕ, ◌+◌, ◌*◌, ◌<◌, ◌≤◌, Bool, true, false, nat_le, ◌&&◌, if◌then◌else◌, List, [], ◌∷◌, length, slice_index_or}
+use Rattle.std.specs.Prelude.{◌≡◌, ◌⊎◌, ℕ, ◌+◌, ◌*◌, ◌<◌, ◌≤◌, Bool, true, false, nat_le, ◌&&◌}
+use Rattle.std.specs.Prelude.{if◌then◌else◌, List, [], ◌∷◌, length, slice_index_or}
 use Rattle.std.specs.List.{list_any}
 use Rattle.zd_model.specs.Bytes.{zero_sector}
 use Rattle.zd_model.specs.Plain.{pattern, ends_past}
@@ -10,36 +11,51 @@ use Rattle.zd_model.specs.Plain.{Answer}
 use Rattle.zd_model.specs.Plain.Answer.{Done, Fault}
 use Rattle.zd_model.specs.History.{HistoryEntry}
 
--- a flush that was acknowledged when k calls had returned
+-- a flush that was done
 abbrev pub is_done_flush : What → Answer → Bool
 is_done_flush Flush Done = true
 is_done_flush what reply = false
 
+-- a flush that was acknowledged when k calls had returned
 abbrev pub is_acknowledged : ℕ → HistoryEntry → Bool
 is_acknowledged k e = is_done_flush e.what e.reply && nat_le e.at k
 
--- the entries through the last acknowledged flush, and those after it
+-- the entries through the last acknowledged flush; none where there is none
 abbrev pub flushed : ℕ → List HistoryEntry → List HistoryEntry
 flushed k [] = []
-flushed k (e ∷ history) = if list_any (is_acknowledged k) (e ∷ history) then e ∷ flushed k history else []
+flushed k (e ∷ history) =
+    if list_any (is_acknowledged k) (e ∷ history) then e ∷ flushed k history else []
 
+-- the entries after it
 abbrev pub unflushed : ℕ → List HistoryEntry → List HistoryEntry
 unflushed k [] = []
-unflushed k (e ∷ history) = if list_any (is_acknowledged k) (e ∷ history) then unflushed k history else e ∷ history
+unflushed k (e ∷ history) =
+    if list_any (is_acknowledged k) (e ∷ history) then unflushed k history else e ∷ history
 
+-- sector i is one of these blocks
 abbrev pub Covers : ℕ → ℕ → ℕ → Type 0
 Covers block count i = (8 * block ≤ i) × (i < 8 * (block + count))
 
--- an entry after the flush puts this value into sector i
+-- what the request of entry e, which stands after the flush, may have put into sector i: a write
+-- whose call is done or the next one, a discard that was done
 abbrev pub Puts : ℕ → ℕ → List ℕ → HistoryEntry → What → Type 0
-Puts k i value e (Write block count seed) = (e.at ≤ k + 1) × ((e.reply ≡ Done) ⊎ (e.reply ≡ Fault)) × Covers block count i × (value ≡ pattern seed i)
-Puts k i value e (Discard block count) = (e.at ≤ k) × (e.reply ≡ Done) × Covers block count i × (value ≡ zero_sector)
+Puts k i value e (Write block count seed) =
+    (e.at ≤ k + 1) × ((e.reply ≡ Done) ⊎ (e.reply ≡ Fault))
+    × Covers block count i × (value ≡ pattern seed i)
+Puts k i value e (Discard block count) =
+    (e.at ≤ k) × (e.reply ≡ Done) × Covers block count i × (value ≡ zero_sector)
 Puts k i value e what = ⊥
 
+-- one of these entries does, and is in range
 abbrev pub SomePuts : ℕ → ℕ → ℕ → List ℕ → List HistoryEntry → Type 0
 SomePuts sectors k i value [] = ⊥
-SomePuts sectors k i value (e ∷ later) = ((ends_past sectors e.what ≡ false) × Puts k i value e e.what) ⊎ SomePuts sectors k i value later
+SomePuts sectors k i value (e ∷ later) =
+    ((ends_past sectors e.what ≡ false) × Puts k i value e e.what)
+    ⊎ SomePuts sectors k i value later
 
--- what sector i may hold: its value at the flush, or what a later entry puts there
+-- what sector i may hold where k calls had returned and the next may be under way: its value at the
+-- flush, or what a later entry puts there
 abbrev pub MayHold : List (List ℕ) → List HistoryEntry → ℕ → ℕ → List ℕ → Type 0
-MayHold base history k i value = (value ≡ slice_index_or (last_array base (flushed k history)) i zero_sector) ⊎ SomePuts (length base) k i value (unflushed k history)
+MayHold base history k i value =
+    (value ≡ slice_index_or (last_array base (flushed k history)) i zero_sector)
+    ⊎ SomePuts (length base) k i value (unflushed k history)

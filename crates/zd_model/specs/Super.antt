@@ -1,5 +1,7 @@
 -- A super block: 4096 bytes that stand for a record.
-use Rattle.std.specs.Prelude.{◌≡◌, ℕ, ◌%◌, ◌^◌, ◌<◌, ◌≤◌, Bool, ◌==◌, if◌then◌else◌, List, [], ◌∷◌, ◌++◌, take, drop, replicate, slice_range, slice_index, Result, Ok, Err}
+use Rattle.std.specs.Prelude.{◌≡◌, ℕ, ◌%◌, ◌^◌, ◌<◌, ◌≤◌, Bool, ◌==◌, if◌then◌else◌, List, [], ◌∷◌}
+use Rattle.std.specs.Prelude.{◌++◌, take, drop, replicate, slice_range, slice_index, Result, Ok}
+use Rattle.std.specs.Prelude.{Err}
 use Rattle.std.specs.Int.{w32, w64, to_le_bytes}
 use Rattle.std.specs.List.{list_all, concat}
 use Rattle.zd_model.specs.Bytes.{u32_at, u64_at, AreBytes}
@@ -9,18 +11,33 @@ use Rattle.zd_model.specs.declared.metadata.Super.{Super}
 use Rattle.zd_model.specs.declared.metadata.NotSuper.{NotSuper}
 use Rattle.zd_model.specs.declared.metadata.NotSuper.TheVariants.{Magic, Version, Crc, Tail}
 
--- the fields at their places
+-- the five numbers of the layout at their places
 abbrev pub layout_at : List ℕ → Layout
-layout_at block = record { meta_blocks = u32_at block 24; reserved = u32_at block 28; chunks = u32_at block 32; map_blocks = u32_at block 36; bitmap_blocks = u32_at block 40 }
+layout_at block = record {
+  meta_blocks = u32_at block 24;
+  reserved = u32_at block 28;
+  chunks = u32_at block 32;
+  map_blocks = u32_at block 36;
+  bitmap_blocks = u32_at block 40;
+}
 
+-- the fields at their places
 abbrev pub super_at : List ℕ → Super
-super_at block = record { generation = u64_at block 8; own = u64_at block 16; layout = layout_at block; label = slice_range block 48 80; volume = slice_range block 80 96; device = slice_range block 96 112 }
+super_at block = record {
+  generation = u64_at block 8;
+  own = u64_at block 16;
+  layout = layout_at block;
+  label = slice_range block 48 80;
+  volume = slice_range block 80 96;
+  device = slice_range block 96 112;
+}
 
--- the crc of the block with zeros in the crc field, started with the generation
+-- the crc of the block with zeros in the crc field, started with the generation's lower half
 unfoldable pub crc_of : List ℕ → ℕ
-crc_of block = crc32_le (u64_at block 8 % 2 ^ 32) (take 44 block ++ 0 ∷ 0 ∷ 0 ∷ 0 ∷ [] ++ drop 48 block)
+crc_of block =
+    crc32_le (u64_at block 8 % 2 ^ 32) (take 44 block ++ 0 ∷ 0 ∷ 0 ∷ 0 ∷ [] ++ drop 48 block)
 
--- the block stands for this record
+-- the block stands for this record: magic, version 2, crc, zeros behind the fields
 pub record IsSuper (block : List ℕ) (s : Super) : Type 0 where
   pub bytes : AreBytes 4096 block
   pub magic : u32_at block 0 ≡ 0x445A4244
@@ -36,15 +53,31 @@ has_zero_tail block = list_all (λ b. b == 0) (drop 112 block)
 -- the record, or the first rule that the block breaks
 unfoldable pub decoded : List ℕ → Result Super NotSuper
 decoded block =
-    if u32_at block 0 == 0x445A4244 then (if u32_at block 4 == 2 then (if u32_at block 44 == crc_of block then (if has_zero_tail block then Ok (super_at block) else Err Tail) else Err Crc) else Err Version) else Err Magic
+    if u32_at block 0 == 0x445A4244 then
+    (if u32_at block 4 == 2 then
+    (if u32_at block 44 == crc_of block then
+    (if has_zero_tail block then Ok (super_at block)
+    else Err Tail) else Err Crc) else Err Version) else Err Magic
 
--- the bytes of a record before its crc, and those behind it
+-- the bytes of a record before its crc
 abbrev pub before_crc : Super → List ℕ
-before_crc s = concat (to_le_bytes w32 0x445A4244 ∷ to_le_bytes w32 2 ∷ to_le_bytes w64 s.generation ∷ to_le_bytes w64 s.own ∷ to_le_bytes w32 s.layout.meta_blocks ∷ to_le_bytes w32 s.layout.reserved ∷ to_le_bytes w32 s.layout.chunks ∷ to_le_bytes w32 s.layout.map_blocks ∷ to_le_bytes w32 s.layout.bitmap_blocks ∷ [])
+before_crc s = concat (
+    to_le_bytes w32 0x445A4244
+    ∷ to_le_bytes w32 2
+    ∷ to_le_bytes w64 s.generation
+    ∷ to_le_bytes w64 s.own
+    ∷ to_le_bytes w32 s.layout.meta_blocks
+    ∷ to_le_bytes w32 s.layout.reserved
+    ∷ to_le_bytes w32 s.layout.chunks
+    ∷ to_le_bytes w32 s.layout.map_blocks
+    ∷ to_le_bytes w32 s.layout.bitmap_blocks
+    ∷ [])
 
+-- and those behind it
 unfoldable pub behind_crc : Super → List ℕ
 behind_crc s = s.label ++ (s.volume ++ (s.device ++ replicate 3984 0))
 
+-- the bytes of a record with this crc
 abbrev pub spelled : Super → ℕ → List ℕ
 spelled s crc = before_crc s ++ to_le_bytes w32 crc ++ behind_crc s
 

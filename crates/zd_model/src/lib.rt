@@ -1,7 +1,8 @@
 //! What a zoned volume is, and what its requests mean.
 #![tactic(auto)]
 
-ghost use Rattle.std.specs.Prelude.{◌≡◌, ◌++◌, slice_get, Some, None, [], ◌∷◌, codes, map, replicate, take, ◌^◌, Ok, true, false};
+ghost use Rattle.std.specs.Prelude.{◌≡◌, ◌++◌, slice_get, Some, None, [], ◌∷◌, codes, map};
+ghost use Rattle.std.specs.Prelude.{replicate, take, ◌^◌, Ok, true, false};
 ghost use Rattle.zd_model.specs.Crc.{crc32_le};
 ghost use Rattle.zd_model.specs.Bytes.{u32_at, zero_sector};
 ghost use Rattle.zd_model.specs.Super.{block_of, decoded};
@@ -9,9 +10,17 @@ ghost use Rattle.zd_model.specs.Plain.{pattern, word};
 ghost use Rattle.zd_model.specs.Pieces.{pieces_of};
 ghost use Rattle.zd_model.specs.Text.{numeral};
 ghost use Rattle.zd_model.specs.Report.{report};
-ghost use Rattle.zd_model.specs.Examples.{fresh_head, two_chunks_plan, two_chunks_pieces, request, piece, empty_volume_history, last_block_history, two_chunks_history, discard_history, zero_volume, rewritten_history, fresh_image, fresh_layout, fresh_chosen, small, only, buffered};
+ghost use Rattle.zd_model.specs.Examples.{fresh_head, two_chunks_plan, two_chunks_pieces, request};
+ghost use Rattle.zd_model.specs.Examples.{piece, empty_volume_history, last_block_history};
+ghost use Rattle.zd_model.specs.Examples.{two_chunks_history, discard_history, zero_volume};
+ghost use Rattle.zd_model.specs.Examples.{rewritten_history, fresh_image, fresh_layout};
+ghost use Rattle.zd_model.specs.Examples.{fresh_chosen, small, only, buffered};
 ghost use Rattle.zd_model.specs.Faults.{bad_bit, bad_chunk};
-ghost use Rattle.zd_model.specs.Laws.{EachRecordHasABlock, OneRecordHasOneBlock, OneBlockHasOneRecord, DecodesToItsRecord, PiecesCutARequest, NoBadChunkIsRight, OneTextHasOneRefusal, OneScriptHasOnePlan, OneReportHasOneHistory};
+ghost use Rattle.zd_model.specs.Laws.{EachRecordHasABlock, OneRecordHasOneBlock};
+ghost use Rattle.zd_model.specs.Laws.{OneBlockHasOneRecord, DecodesToItsRecord, PiecesCutARequest};
+ghost use Rattle.zd_model.specs.Laws.{NoBadChunkIsRight, OneTextHasOneRefusal, OneScriptHasOnePlan};
+ghost use Rattle.zd_model.specs.Laws.{OneReportHasOneHistory, OneOutputHasOneHistory};
+ghost use Rattle.zd_model.specs.Laws.{AReportIsAnOutput};
 ghost use Rattle.zd_model.specs.Stops.{MayHold};
 ghost use Rattle.zd_model.specs.Script.{IsScript, Refuses};
 ghost use Rattle.zd_base.specs.Layout.{Fits};
@@ -149,5 +158,7 @@ pub fn laws()
     ensures map { NoBadChunkIsRight }
     ensures script { OneScriptHasOnePlan }
     ensures refusal { OneTextHasOneRefusal }
+    ensures output { OneOutputHasOneHistory }
     ensures report { OneReportHasOneHistory }
+    ensures ended { AReportIsAnOutput }
 {}

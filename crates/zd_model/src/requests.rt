@@ -20,8 +20,8 @@ pub struct Request {
     pub what: What,
 }
 
-/// The part of a request that lies in one chunk. A flush is one piece, and so is a request that ends
-/// past the device.
+/// The part of a request that lies in one chunk. A flush is one piece, and so is a request that
+/// ends past the device.
 #[derive(Clone, Copy, Debug, PartialEq, Eq)]
 pub struct Piece {
     pub caller: u8,
