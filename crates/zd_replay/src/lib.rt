@@ -1,4 +1,5 @@
 //! Runs of scripts over a disk, from words and bytes to the report.
 #![tactic(auto)]
 
+mod script;
 mod words;
