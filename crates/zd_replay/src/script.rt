@@ -1,0 +1,86 @@
+//! Scripts: their bytes from a source, and the plan that these write.
+
+ghost use Rattle.std.specs.Prelude.{◌≡◌, ◌≢◌, ◌<◌, ◌≤◌, length, vec_len, IfOk};
+ghost use Rattle.zd_base.specs.Faults.{Rose};
+ghost use Rattle.zd_disk.specs.Told.{WhereTold};
+ghost use Rattle.zd_replay.specs.Reads.{IsNoScriptOfReads};
+ghost use Rattle.zd_replay.specs.Script.{ReadsOn};
+ghost use Rattle.zd_replay.specs.declared.script.ScriptFault.TheVariants.{Memory};
+
+use std::alloc::{AllocError, Global};
+use zd_ports::Source;
+
+/// The most bytes of a script.
+const MOST_BYTES: usize = 67_108_864;
+
+/// The bytes that are asked of a source at once.
+const PIECE: usize = 65_536;
+
+/// Why a script can't be run.
+#[derive(Clone, Copy, Debug, PartialEq, Eq)]
+pub enum ScriptFault {
+    /// The source failed. What was read is lost.
+    Source,
+    /// The bytes aren't a script of reads by caller 0.
+    NotReads,
+    /// No memory was found.
+    Memory,
+}
+
+impl From<AllocError> for ScriptFault {
+    ghost from_gives = { λ _ fault. fault ≡ Memory };
+
+    fn from(_error: AllocError) -> ScriptFault {
+        ScriptFault::Memory
+    }
+}
+
+fn zeros(alloc: Global, len: usize) -> Result<Vec<u8>, AllocError>
+    ensures { IfOk result (λ v. vec_len v ≡ len) }
+{
+    vec![in alloc; 0u8; len]
+}
+
+/// Appends what one call of the source reads, at most `most` bytes, and answers how many; 0 is the
+/// end of input.
+fn read_piece<S: Source>(
+    from: &mut S,
+    piece: &mut [u8],
+    most: usize,
+    all: &mut Vec<u8>,
+) -> Result<usize, ScriptFault>
+    requires { (0 < length piece.old) × (0 < most) }
+    ensures ok { IfOk result (λ n.
+        ReadsOn (S.left from.old) (S.left from.new) n all.old.items all.new.items) }
+    ensures most { IfOk result (λ n. n ≤ most) }
+    ensures source { result ≡ Err ScriptFault.Source → Rose (S.faults from.old) (S.faults from.new) }
+    ensures not_reads { result ≢ Err ScriptFault.NotReads }
+    ensures later { S.faults from.old ≤ S.faults from.new }
+{
+    let asked = piece.len().min(most);
+    let piece = &mut piece[..asked];
+    let Ok(count) = from.read(piece) else {
+        return Err(ScriptFault::Source);
+    };
+    all.extend_from_slice(&piece[..count])?;
+    Ok(count)
+}
+
+/// All bytes up to the end of input. Reading stops at the byte that shows that a script is too long.
+pub fn read_all<S: Source>(alloc: Global, from: &mut S) -> Result<Vec<u8>, ScriptFault>
+    ensures ok { IfOk result (λ v. WhereTold (S.left from.old) (λ bytes. v.items ≡ bytes)) }
+    ensures not_reads { result ≡ Err ScriptFault.NotReads →
+        WhereTold (S.left from.old) IsNoScriptOfReads }
+    ensures source { result ≡ Err ScriptFault.Source → Rose (S.faults from.old) (S.faults from.new) }
+    ensures later { S.faults from.old ≤ S.faults from.new }
+{
+    let mut all = Vec::new(alloc);
+    let mut piece = zeros(alloc, PIECE)?;
+    while all.len() <= MOST_BYTES {
+        let most = MOST_BYTES + 1 - all.len();
+        if read_piece(from, &mut piece, most, &mut all)? == 0 {
+            return Ok(all);
+        }
+    }
+    Err(ScriptFault::NotReads)
+}
