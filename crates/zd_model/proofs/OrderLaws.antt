@@ -18,7 +18,7 @@ in_time-push sectors [] e h c = tt
 in_time-push sectors (f ∷ []) e h c = (c, tt)
 in_time-push sectors (f ∷ g ∷ history) e h c = (h.0, in_time-push sectors (g ∷ history) e h.1 c)
 
-marks-append : (caller : ℕ) (xs ys : List Mark) → marks_of_caller caller (xs ++ ys) ≡ marks_of_caller caller xs ++ marks_of_caller caller ys
+pub marks-append : (caller : ℕ) (xs ys : List Mark) → marks_of_caller caller (xs ++ ys) ≡ marks_of_caller caller xs ++ marks_of_caller caller ys
 marks-append caller [] ys = refl
 marks-append caller (m ∷ xs) ys = ap (λ rest. cond (eqb m.caller caller) (m ∷ rest) rest) (marks-append caller xs ys) ∙ outside (eqb m.caller caller)
   where

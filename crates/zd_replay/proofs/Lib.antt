@@ -1,2 +1,4 @@
 pub mod OpeningLaws
+pub mod PieceLaws
+pub mod ZeroLaws
 pub mod ReadsLaws
