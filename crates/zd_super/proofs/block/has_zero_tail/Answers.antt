@@ -1,0 +1,9 @@
+use Rattle.std.proofs.Common.{◌∙◌, ap, ℕ, List, nat_eq}
+use Rattle.std.specs.List.{list_all}
+use Rattle.std.proofs.lemmas.List.{take_rest}
+use Rattle.zd_model.specs.Super.{has_zero_tail}
+use Rattle.zd_super.proofs.block.has_zero_tail.Goals as goal
+
+pub returns : goal.returns
+unfolding has_zero_tail
+returns c = c.are_zeros.ensures ∙ ap (λ (bytes : List ℕ). list_all (λ byte. nat_eq byte 0) bytes) (take_rest c.args.block.now 112)

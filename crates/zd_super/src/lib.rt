@@ -1,0 +1,11 @@
+//! Super blocks: the head of a set of metadata as a block of 4096 bytes, and the crc that guards it.
+#![tactic(auto)]
+
+mod block;
+mod crc;
+mod offset;
+mod table;
+
+pub use block::decode;
+pub use crc::crc32_le;
+pub use zd_model::{Layout, NotSuper, Super};

@@ -1,0 +1,38 @@
+//! Where the fields of a super block begin, in bytes. Numbers are little-endian.
+
+/// The magic number, of four bytes.
+pub const MAGIC: usize = 0;
+
+/// The version, of four bytes.
+pub const VERSION: usize = 4;
+
+/// The generation, of eight bytes.
+pub const GENERATION: usize = 8;
+
+/// The super block's own number among the blocks of the disk, of eight bytes.
+pub const OWN: usize = 16;
+
+/// The five numbers of the layout, of four bytes each.
+pub const META_BLOCKS: usize = 24;
+
+pub const RESERVED: usize = 28;
+
+pub const CHUNKS: usize = 32;
+
+pub const MAP_BLOCKS: usize = 36;
+
+pub const BITMAP_BLOCKS: usize = 40;
+
+/// The crc, of four bytes.
+pub const CRC: usize = 44;
+
+/// The label, of 32 bytes.
+pub const LABEL: usize = 48;
+
+/// The identifiers, of 16 bytes each.
+pub const VOLUME: usize = 80;
+
+pub const DEVICE: usize = 96;
+
+/// Zeros, up to the block's end.
+pub const ZEROS: usize = 112;
