@@ -4,6 +4,8 @@
 mod cut;
 mod history;
 mod plan;
+#[cfg(test)]
+mod tests;
 mod what;
 mod words;
 
