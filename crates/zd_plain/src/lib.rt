@@ -1,11 +1,15 @@
 //! Plans and the pieces that they are cut into, the patterns of sectors, and histories.
 #![tactic(auto)]
 
+mod cut;
 mod history;
 mod plan;
+#[cfg(test)]
+mod tests;
 mod what;
 mod words;
 
+pub use cut::pieces;
 pub use history::History;
 pub use plan::Plan;
 pub use what::{at_blocks, block_count, ends_past, first_block};
