@@ -1,0 +1,3 @@
+pub mod ZoneBytes
+pub mod Windows
+pub mod Writes

@@ -1,0 +1,40 @@
+-- What contracts see of a disk in memory.
+use Rattle.std.specs.Prelude.{◌≡◌, ℕ, ◌*◌, ◌/◌, if◌then◌else◌, List, take, Option}
+use Rattle.zd_base.specs.Geometry.{Shape}
+use Rattle.zd_model.specs.Image.{Image}
+use Rattle.zd_disk.specs.Steps.{count_of}
+use Rattle.zd_disk.specs.Told.{next_count}
+use Rattle.zd_memdisk.specs.Fails.{names, all_counted}
+use Rattle.zd_memdisk.specs.Stores.{store_image}
+use Rattle.zd_memdisk.specs.declared.fails.DeviceCall.{DeviceCall}
+use Rattle.zd_memdisk.specs.declared.fails.Fail.{Fail}
+use Rattle.zd_memdisk.specs.declared.memory.MemDisk.{MemDisk}
+
+-- its zones' sizes and kinds
+abbrev pub disk_geometry : MemDisk → Shape
+disk_geometry d = d.store.geometry
+
+-- what it reads as
+abbrev pub disk_image : MemDisk → Image
+disk_image d = store_image d.store
+
+-- how many writing calls have returned
+abbrev pub disk_calls : MemDisk → ℕ
+disk_calls d = d.calls
+
+-- how often it has failed
+abbrev pub disk_faults : MemDisk → ℕ
+disk_faults d = d.faults
+
+-- the calls that are to fail; of each, how many such calls are still to come until it does
+abbrev pub disk_fails : MemDisk → List Fail
+disk_fails d = d.fails.items
+
+-- each item that means the call has counted it, and the call is a fault where an item named it
+pub record HasCounted (call : DeviceCall) (zone : Option ℕ) (old new : MemDisk) : Type 0 where
+  pub fails : disk_fails new ≡ all_counted (disk_fails old) call zone
+  pub faults : disk_faults new ≡ (if names (disk_fails old) call zone then next_count (disk_faults old) else disk_faults old)
+
+-- the first half of some sectors, rounded down
+abbrev pub front_half : List ℕ → List ℕ
+front_half bytes = take (512 * (count_of bytes / 2)) bytes

@@ -1,0 +1,5 @@
+pub mod Fails
+pub mod Stored
+pub mod Stores
+pub mod Laws
+pub mod Disks

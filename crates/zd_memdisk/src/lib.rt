@@ -1,0 +1,9 @@
+//! A zoned disk in memory, whose calls fail where a test wants it.
+#![tactic(auto)]
+
+mod fails;
+mod memory;
+mod store;
+
+pub use fails::{DeviceCall, Fail};
+pub use memory::MemDisk;

@@ -1,0 +1,199 @@
+//! The disk in memory, and its calls.
+
+ghost use Rattle.std.specs.Prelude.{◌≡◌, ◌+◌, ◌*◌, ◌/◌, ◌<◌, ◌≤◌, ◌↔◌, ℕ, length, take, [], Some, None, IfOk, OnOk, OnErr, IsErr, IsTrue};
+ghost use Rattle.zd_base.specs.Faults.{HasCause};
+ghost use Rattle.zd_base.specs.Geometry.{zone_sectors};
+ghost use Rattle.zd_model.specs.Image.{run_of};
+ghost use Rattle.zd_disk.specs.Steps.{count_of, Wrote, WasReset};
+ghost use Rattle.zd_disk.specs.Told.{next_count, IsSequentialZone, IsInside};
+ghost use Rattle.zd_memdisk.specs.Fails.{names, all_counted};
+ghost use Rattle.zd_memdisk.specs.Stored.{IsBlank};
+ghost use Rattle.zd_memdisk.specs.Laws.{agrees_of, shaped_of};
+ghost use Rattle.zd_memdisk.specs.Disks.{disk_geometry, disk_image, disk_calls, disk_faults, disk_fails, front_half, HasCounted};
+
+use crate::fails::{DeviceCall, Fail, count_call};
+use crate::store::Store;
+use std::alloc::Global;
+use zd_base::{Failed, Geometry, Memory, SECTOR, ZoneNo};
+use zd_disk::ZonedDisk;
+
+/// A disk in memory. It tells its zones, and fails exactly where a list says so.
+#[derive(Drop)]
+pub struct MemDisk {
+    store: Store,
+    fails: Vec<Fail>,
+    calls: u64,
+    faults: u64,
+}
+
+// What a write that fails puts.
+fn first_half(bytes: &[u8]) -> &[u8]
+    ensures { result.now ≡ front_half bytes.now }
+{
+    &bytes[..SECTOR * (bytes.len() / SECTOR / 2)]
+}
+
+impl MemDisk {
+    /// A disk of zeros, with all pointers 0. It has had no call, and no call is to fail.
+    pub fn blank(alloc: Global, geometry: Geometry) -> Result<MemDisk, Memory>
+        ensures zones { IfOk result (λ d. IsBlank geometry (disk_image d)) }
+        ensures calls { IfOk result (λ d. disk_calls d ≡ 0) }
+        ensures faults { IfOk result (λ d. disk_faults d ≡ 0) }
+        ensures fails { IfOk result (λ d. disk_fails d ≡ []) }
+    {
+        let Ok(store) = Store::blank(alloc, geometry) else {
+            return Err(Memory);
+        };
+        Ok(MemDisk {
+            store,
+            fails: Vec::new(alloc),
+            calls: 0,
+            faults: 0,
+        })
+    }
+
+    /// Has these calls fail, and no others.
+    ///
+    /// Calls are counted from now on. A write that fails puts the first half of its sectors, rounded
+    /// down, and any other call that fails does nothing.
+    pub fn fail_at(&mut self, fails: Vec<Fail>)
+        ensures fails { disk_fails self.new ≡ fails.items }
+        ensures zones { disk_image self.new ≡ disk_image self.old }
+        ensures calls { disk_calls self.new ≡ disk_calls self.old }
+        ensures faults { disk_faults self.new ≡ disk_faults self.old }
+    {
+        self.fails = fails;
+    }
+
+    /// How many writing calls have returned, those that failed too: `write`, `reset` and `flush`.
+    pub fn calls(&self) -> u64
+        ensures { result ≡ disk_calls self.now }
+    {
+        self.calls
+    }
+
+    // Counts a call at the list, which says whether it fails.
+    fn answer(&mut self, call: DeviceCall, zone: Option<ZoneNo>) -> Result<(), Failed>
+        ensures named { IsErr result ↔ IsTrue (names (disk_fails self.old) call zone) }
+        ensures counted { HasCounted call zone self.old self.new }
+        ensures cause { HasCause (disk_faults self.old) (disk_faults self.new) result }
+        ensures same { (self.new.store ≡ self.old.store) × (self.new.calls ≡ self.old.calls) }
+    {
+        if count_call(&mut self.fails, call, zone) {
+            self.faults = self.faults.saturating_add(1);
+            return Err(Failed);
+        }
+        Ok(())
+    }
+}
+
+impl ZonedDisk for MemDisk {
+    ghost told = { λ d. Some (disk_geometry d) };
+
+    ghost zones = { λ d. Some (disk_image d) };
+
+    ghost calls = { λ d. disk_calls d };
+
+    ghost faults = { λ d. disk_faults d };
+
+    ghost agrees = { λ d i e. agrees_of d.store.geometry d.store.zones.items d.store.pointers.items i e };
+
+    ghost shaped = { λ d i e. shaped_of d.store.geometry d.store.zones.items d.store.pointers.items d.store.stored i e };
+
+    fn geometry(&mut self) -> Result<Geometry, Failed>
+        ensures value { IfOk result (λ g. g ≡ disk_geometry self.old) }
+        ensures told { disk_geometry self.new ≡ disk_geometry self.old }
+        ensures zones { disk_image self.new ≡ disk_image self.old }
+        ensures calls { disk_calls self.new ≡ disk_calls self.old }
+        ensures faults { HasCounted DeviceCall.Geometry None self.old self.new }
+        ensures named { IsErr result ↔ IsTrue (names (disk_fails self.old) DeviceCall.Geometry None) }
+        ensures cause { HasCause (disk_faults self.old) (disk_faults self.new) result }
+    {
+        self.answer(DeviceCall::Geometry, None)?;
+        Ok(self.store.geometry())
+    }
+
+    fn report(&mut self, zone: ZoneNo) -> Result<u32, Failed>
+        requires { IsSequentialZone zone (disk_geometry self.old) }
+        ensures value { IfOk result (λ p. p ≡ (disk_image self.old).held zone) }
+        ensures within { IfOk result (λ p. p ≤ zone_sectors (disk_geometry self.old)) }
+        ensures told { disk_geometry self.new ≡ disk_geometry self.old }
+        ensures zones { disk_image self.new ≡ disk_image self.old }
+        ensures calls { disk_calls self.new ≡ disk_calls self.old }
+        ensures faults { HasCounted DeviceCall.Report (Some zone) self.old self.new }
+        ensures named { IsErr result ↔ IsTrue (names (disk_fails self.old) DeviceCall.Report (Some zone)) }
+        ensures cause { HasCause (disk_faults self.old) (disk_faults self.new) result }
+    {
+        self.answer(DeviceCall::Report, Some(zone))?;
+        Ok(self.store.pointer(zone))
+    }
+
+    fn read(&mut self, zone: ZoneNo, start: u32, into: &mut [u8]) -> Result<(), Failed>
+        requires whole { length into.old ≡ 512 * count_of into.old }
+        requires inside { IsInside zone start (count_of into.old) (disk_geometry self.old) }
+        ensures value { OnOk result (into.new
+            ≡ run_of ((disk_image self.old).sector zone) start (count_of into.old)) }
+        ensures err { OnErr result (into.new ≡ into.old) }
+        ensures told { disk_geometry self.new ≡ disk_geometry self.old }
+        ensures zones { disk_image self.new ≡ disk_image self.old }
+        ensures calls { disk_calls self.new ≡ disk_calls self.old }
+        ensures faults { HasCounted DeviceCall.Read (Some zone) self.old self.new }
+        ensures named { IsErr result ↔ IsTrue (names (disk_fails self.old) DeviceCall.Read (Some zone)) }
+        ensures cause { HasCause (disk_faults self.old) (disk_faults self.new) result }
+    {
+        self.answer(DeviceCall::Read, Some(zone))?;
+        self.store.read(zone, start, into);
+        Ok(())
+    }
+
+    fn write(&mut self, zone: ZoneNo, start: u32, bytes: &[u8]) -> Result<(), Failed>
+        requires whole { length bytes.now ≡ 512 * count_of bytes.now }
+        requires inside { IsInside zone start (count_of bytes.now) (disk_geometry self.old) }
+        requires pointer { (disk_geometry self.old).conv ≤ zone → start ≡ (disk_image self.old).held zone }
+        ensures ok { OnOk result (Wrote zone start bytes.now (disk_image self.old) (disk_image self.new)) }
+        ensures err { OnErr result
+            (Wrote zone start (front_half bytes.now) (disk_image self.old) (disk_image self.new)) }
+        ensures told { disk_geometry self.new ≡ disk_geometry self.old }
+        ensures calls { disk_calls self.new ≡ next_count (disk_calls self.old) }
+        ensures faults { HasCounted DeviceCall.Write (Some zone) self.old self.new }
+        ensures named { IsErr result ↔ IsTrue (names (disk_fails self.old) DeviceCall.Write (Some zone)) }
+        ensures cause { HasCause (disk_faults self.old) (disk_faults self.new) result }
+    {
+        self.calls = self.calls.saturating_add(1);
+        let answer = self.answer(DeviceCall::Write, Some(zone));
+        if answer.is_err() {
+            self.store.write(zone, start, first_half(bytes));
+            return answer;
+        }
+        self.store.write(zone, start, bytes);
+        answer
+    }
+
+    fn reset(&mut self, zone: ZoneNo) -> Result<(), Failed>
+        requires { IsSequentialZone zone (disk_geometry self.old) }
+        ensures ok { OnOk result (WasReset zone (disk_image self.old) (disk_image self.new)) }
+        ensures err { OnErr result (disk_image self.new ≡ disk_image self.old) }
+        ensures told { disk_geometry self.new ≡ disk_geometry self.old }
+        ensures calls { disk_calls self.new ≡ next_count (disk_calls self.old) }
+        ensures faults { HasCounted DeviceCall.Reset (Some zone) self.old self.new }
+        ensures named { IsErr result ↔ IsTrue (names (disk_fails self.old) DeviceCall.Reset (Some zone)) }
+        ensures cause { HasCause (disk_faults self.old) (disk_faults self.new) result }
+    {
+        self.calls = self.calls.saturating_add(1);
+        self.answer(DeviceCall::Reset, Some(zone))?;
+        self.store.reset(zone);
+        Ok(())
+    }
+
+    fn flush(&mut self) -> Result<(), Failed>
+        ensures zones { disk_image self.new ≡ disk_image self.old }
+        ensures told { disk_geometry self.new ≡ disk_geometry self.old }
+        ensures calls { disk_calls self.new ≡ next_count (disk_calls self.old) }
+        ensures faults { HasCounted DeviceCall.Flush None self.old self.new }
+        ensures named { IsErr result ↔ IsTrue (names (disk_fails self.old) DeviceCall.Flush None) }
+        ensures cause { HasCause (disk_faults self.old) (disk_faults self.new) result }
+    {
+        self.calls = self.calls.saturating_add(1);
+        self.answer(DeviceCall::Flush, None)
+    }
+}
