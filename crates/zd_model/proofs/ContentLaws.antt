@@ -167,3 +167,13 @@ content_of_same old new c image shape same well =
     let b : ℕ = old.geometry.zone_blocks in
     ap₂ (λ (n : ℕ) (u : Tables). served n u new.sector) (ap (λ (g : Shape). g.zone_blocks) same.geometry) (tables_of_same old new c image shape same well.is_chosen well.layout)
     ∙ same_map (sector_of b t new.sector) (sector_of b t old.sector) 0 (length t.entries * b * 8) (λ i from low. served_with old c image well (λ u v. v ≡ u) new.sector (λ z j z_low j_low. (same.zones z).sectors j j_low) refl (omega arith) i)
+
+-- two images hold the same either way round
+pub same_back : (old new : Image) → Same old new → Same new old
+same_back old new same = record {
+  geometry = sym same.geometry;
+  zones = λ z. record {
+    held = sym (same.zones z).held;
+    sectors = λ i low. (let held = (same.zones z).held in sym ((same.zones z).sectors i (omega arith)));
+  };
+}
