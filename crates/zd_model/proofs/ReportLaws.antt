@@ -1,11 +1,11 @@
 -- A report determines its history and how it ended.
-use Rattle.std.proofs.Common.{◌≡◌, ℕ, ◌*◌, List, [], ◌∷◌, ◌++◌, length, map, refl, sym, ap, ap₂, ◌∙◌, arith, subst, get_or, if◌then◌else◌, ◌==◌}
+use Rattle.std.proofs.Common.{◌≡◌, ℕ, ◌*◌, List, [], ◌∷◌, ◌++◌, length, map, refl, sym, ap, ap₂, ◌∙◌, arith, subst, get_or, if◌then◌else◌, ◌==◌, codes}
 use Rattle.std.proofs.lemmas.List.{append_assoc}
 use Rattle.std.specs.List.{AllByRecursion, join_with_byte, flat_map}
 use Rattle.zd_model.specs.Text.{numeral}
 use Rattle.zd_model.specs.Pieces.{first_block}
 use Rattle.zd_model.specs.Script.{letter, numbers_of}
-use Rattle.zd_model.specs.Report.{items_text, reply_text, entry_text, outcome_text, output, report, HasReply, IsReported}
+use Rattle.zd_model.specs.Report.{items_text, reply_text, entry_text, outcome_text, output, report, status_of, HasReply, IsReported}
 use Rattle.zd_model.specs.declared.requests.What.{What}
 use Rattle.zd_model.specs.declared.requests.What.TheVariants.{Read, Write, Discard, Flush}
 use Rattle.zd_model.specs.Plain.{Answer}
@@ -189,6 +189,19 @@ outcome-text (outcomes.NoVolume volumes.NoSuperBlock) = refl
 outcome-text (outcomes.NoVolume volumes.Layout) = refl
 outcome-text outcomes.Source = refl
 outcome-text outcomes.NotBuilt = refl
+
+-- and begins with its status
+pub tells_status : (o : Outcome) → (rest : List ℕ) × (outcome_text o ≡ codes "end " ++ numeral (status_of o) ++ 32 ∷ rest)
+unfolding numeral
+tells_status (outcomes.Ended endings.Ok) = (_, refl)
+tells_status (outcomes.Ended (endings.Stopped whys.Device)) = (_, refl)
+tells_status (outcomes.Ended (endings.Stopped whys.Generation)) = (_, refl)
+tells_status (outcomes.Ended (endings.Stopped whys.Memory)) = (_, refl)
+tells_status outcomes.Usage = (_, refl)
+tells_status (outcomes.NoVolume volumes.NoSuperBlock) = (_, refl)
+tells_status (outcomes.NoVolume volumes.Layout) = (_, refl)
+tells_status outcomes.Source = (_, refl)
+tells_status outcomes.NotBuilt = (_, refl)
 
 pub record SameOutput (history other : List HistoryEntry) (outcome last : Outcome) : Type 0 where
   pub entries : history ≡ other

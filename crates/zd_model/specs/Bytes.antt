@@ -1,6 +1,6 @@
 -- Numbers, sectors and blocks in lists of bytes. A sector and a block are lists of bytes.
 use Rattle.std.specs.Prelude.{◌≡◌, ◌<◌, ℕ, ◌+◌, ◌*◌, ◌/◌, ◌-◌, List, ◌++◌, length, map, take, drop}
-use Rattle.std.specs.Prelude.{replicate, slice_range, slice_index}
+use Rattle.std.specs.Prelude.{replicate, slice_range, slice_index, All}
 use Rattle.std.specs.Int.{w32, w64, from_le_bytes}
 use Rattle.std.specs.List.{range_with_len}
 
@@ -8,6 +8,10 @@ use Rattle.std.specs.List.{range_with_len}
 pub record AreBytes (n : ℕ) (bytes : List ℕ) : Type 0 where
   pub count : length bytes ≡ n
   pub each : (i : ℕ) → slice_index bytes i < 256
+
+-- a sector: 512 bytes
+abbrev pub IsSector : List ℕ → Type 0
+IsSector bytes = (length bytes ≡ 512) × All (λ b. b < 256) bytes
 
 -- the number of four bytes from `at` on, the lowest byte first
 unfoldable pub u32_at : List ℕ → ℕ → ℕ

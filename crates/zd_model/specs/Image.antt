@@ -1,7 +1,8 @@
 -- What a disk holds. A conventional zone holds all its sectors, a sequential one those below its
 -- pointer.
-use Rattle.std.specs.Prelude.{◌≡◌, ℕ, ◌+◌, ◌*◌, ◌/◌, ◌%◌, ◌<◌, ◌≤◌, List, length, map, All}
+use Rattle.std.specs.Prelude.{◌≡◌, ℕ, ◌+◌, ◌*◌, ◌/◌, ◌%◌, ◌<◌, ◌≤◌, List, map}
 use Rattle.std.specs.List.{concat, range_with_len}
+use Rattle.zd_model.specs.Bytes.{IsSector}
 use Rattle.zd_base.specs.Geometry.{Shape}
 
 -- for each zone, how many sectors it holds, and what they are
@@ -12,8 +13,7 @@ pub record Image : Type 0 where
 
 -- each zone stands there, in sectors of 512 bytes
 pub record IsImage (image : Image) : Type 0 where
-  pub sectors : (z i : ℕ) → i < image.held z →
-      (length (image.sector z i) ≡ 512) × All (λ b. b < 256) (image.sector z i)
+  pub sectors : (z i : ℕ) → i < image.held z → IsSector (image.sector z i)
   pub conventional : (z : ℕ) → z < image.geometry.conv →
       image.held z ≡ 8 * image.geometry.zone_blocks
   pub sequential : (z : ℕ) → image.geometry.conv ≤ z →

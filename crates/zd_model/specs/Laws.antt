@@ -1,18 +1,22 @@
 -- What follows from the definitions.
-use Rattle.std.specs.Prelude.{◌≡◌, ◌↔◌, ℕ, ◌+◌, ◌*◌, ◌≤◌, false, None, List, [], map, Ok}
+use Rattle.std.specs.Prelude.{◌≡◌, ◌↔◌, ℕ, ◌+◌, ◌*◌, ◌≤◌, false, None, List, [], ◌∷◌, ◌++◌, map, Ok}
+use Rattle.std.specs.Prelude.{All, codes, length}
 use Rattle.std.specs.List.{AllByRecursion}
-use Rattle.zd_model.specs.Bytes.{AreBytes}
-use Rattle.zd_base.specs.Geometry.{Shape}
+use Rattle.zd_model.specs.Bytes.{AreBytes, IsSector}
+use Rattle.zd_model.specs.Image.{Image, IsImage, Same}
+use Rattle.zd_model.specs.Text.{numeral}
+use Rattle.zd_model.specs.Volume.{Chosen, IsWellFormed, chosen, content}
+use Rattle.zd_base.specs.Geometry.{Shape, IsShape}
 use Rattle.zd_model.specs.Faults.{bad_chunk}
 use Rattle.zd_model.specs.Tables.{MapFollowsRules}
 use Rattle.zd_base.specs.declared.layout.Layout.{Layout}
 use Rattle.zd_model.specs.declared.metadata.MapEntry.{MapEntry}
 use Rattle.zd_model.specs.Super.{IsSuper, HasSizes, decoded, block_of}
-use Rattle.zd_model.specs.Plain.{ends_past}
+use Rattle.zd_model.specs.Plain.{ends_past, pattern}
 use Rattle.zd_model.specs.Pieces.{first_block, block_count, pieces_of_request}
 use Rattle.zd_model.specs.Cut.{IsCut, Moves}
 use Rattle.zd_model.specs.Script.{IsScript, Refuses}
-use Rattle.zd_model.specs.Report.{IsReported, output, report}
+use Rattle.zd_model.specs.Report.{IsReported, outcome_text, output, report, status_of}
 use Rattle.zd_model.specs.declared.texts.Outcome.{Outcome}
 use Rattle.zd_model.specs.declared.texts.Outcome.TheVariants as outcomes
 use Rattle.zd_model.specs.declared.metadata.Super.{Super}
@@ -69,6 +73,15 @@ abbrev pub AReportIsAnOutput : Type 0
 AReportIsAnOutput = (history : List HistoryEntry) (ending : Ending) →
     report history ending ≡ output history (outcomes.Ended ending)
 
+-- the line of an outcome begins with its status
+abbrev pub AnOutcomeTellsItsStatus : Type 0
+AnOutcomeTellsItsStatus = (outcome : Outcome) →
+    (rest : List ℕ) × (outcome_text outcome ≡ codes "end " ++ numeral (status_of outcome) ++ 32 ∷ rest)
+
+-- what a write puts into a sector is a sector
+abbrev pub PatternsAreSectors : Type 0
+PatternsAreSectors = (seed i : ℕ) → IsSector (pattern seed i)
+
 -- a map in which no chunk is bad follows the rules of a map
 abbrev pub NoBadChunkIsRight : Type 0
 NoBadChunkIsRight = (g : Shape) (l : Layout) (entries : List MapEntry) →
@@ -79,3 +92,27 @@ abbrev pub OneTextHasOneRefusal : Type 0
 OneTextHasOneRefusal =
     (bytes : List ℕ) (plan : List Request) (m n : ℕ) (why other : BadLine) → Refuses bytes m why →
     (IsScript bytes plan → ⊥) × (Refuses bytes n other → (m ≡ n) × (why ≡ other))
+
+-- the content of a well-formed image has a sector for each place of the logical device
+abbrev pub ContentsAreSectors : Type 0
+ContentsAreSectors = (image : Image) (c : Chosen) →
+    IsImage image → IsShape image.geometry → IsWellFormed image c →
+    (length (content image c) ≡ c.head.layout.chunks * image.geometry.zone_blocks * 8)
+    × All IsSector (content image c)
+
+-- of images that hold the same, the same set is chosen
+abbrev pub SameImagesChooseTheSame : Type 0
+SameImagesChooseTheSame = (old new : Image) →
+    IsImage old → IsShape old.geometry → Same old new → chosen new ≡ chosen old
+
+-- both are well-formed, or neither
+abbrev pub SameImagesAreFormedTheSame : Type 0
+SameImagesAreFormedTheSame = (old new : Image) (c : Chosen) →
+    IsImage old → IsImage new → IsShape old.geometry → Same old new →
+    IsWellFormed old c ↔ IsWellFormed new c
+
+-- and they have the same content
+abbrev pub SameImagesHaveTheSameContent : Type 0
+SameImagesHaveTheSameContent = (old new : Image) (c : Chosen) →
+    IsImage old → IsShape old.geometry → Same old new → IsWellFormed old c →
+    content new c ≡ content old c

@@ -16,11 +16,6 @@ ghost use Rattle.zd_model.specs.Examples.{two_chunks_history, discard_history, z
 ghost use Rattle.zd_model.specs.Examples.{rewritten_history, fresh_image, fresh_layout};
 ghost use Rattle.zd_model.specs.Examples.{fresh_chosen, small, only, buffered};
 ghost use Rattle.zd_model.specs.Faults.{bad_bit, bad_chunk};
-ghost use Rattle.zd_model.specs.Laws.{EachRecordHasABlock, OneRecordHasOneBlock};
-ghost use Rattle.zd_model.specs.Laws.{OneBlockHasOneRecord, DecodesToItsRecord, PiecesCutARequest};
-ghost use Rattle.zd_model.specs.Laws.{NoBadChunkIsRight, OneTextHasOneRefusal, OneScriptHasOnePlan};
-ghost use Rattle.zd_model.specs.Laws.{OneReportHasOneHistory, OneOutputHasOneHistory};
-ghost use Rattle.zd_model.specs.Laws.{AReportIsAnOutput};
 ghost use Rattle.zd_model.specs.Stops.{MayHold};
 ghost use Rattle.zd_model.specs.Script.{IsScript, Refuses};
 ghost use Rattle.zd_base.specs.Layout.{Fits};
@@ -29,6 +24,7 @@ ghost use Rattle.zd_model.specs.History.{IsLegal, IsOrdered};
 ghost use Rattle.zd_model.specs.Tables.{entry_at, is_set};
 
 mod bytes;
+pub mod laws;
 mod metadata;
 mod requests;
 mod texts;
@@ -146,19 +142,4 @@ pub fn refusal_examples()
     ensures long { Refuses (codes "r 0 0 32769\n") 1 BadLine.TooLong }
     ensures leading { Refuses (codes "f 0\nr 0 00 1\n") 2 BadLine.Form }
     ensures unended { Refuses (codes "r 0 0 1") 1 BadLine.Form }
-{}
-
-/// The laws of the formats and of the pieces.
-pub fn laws()
-    ensures block { EachRecordHasABlock }
-    ensures one_block { OneRecordHasOneBlock }
-    ensures one_record { OneBlockHasOneRecord }
-    ensures decoded { DecodesToItsRecord }
-    ensures pieces { PiecesCutARequest }
-    ensures map { NoBadChunkIsRight }
-    ensures script { OneScriptHasOnePlan }
-    ensures refusal { OneTextHasOneRefusal }
-    ensures output { OneOutputHasOneHistory }
-    ensures report { OneReportHasOneHistory }
-    ensures ended { AReportIsAnOutput }
 {}

@@ -1,0 +1,43 @@
+//! What follows from the definitions. The bodies are empty: the clauses are the laws.
+
+ghost use Rattle.zd_model.specs.Laws.{EachRecordHasABlock, OneRecordHasOneBlock};
+ghost use Rattle.zd_model.specs.Laws.{OneBlockHasOneRecord, DecodesToItsRecord, PatternsAreSectors};
+ghost use Rattle.zd_model.specs.Laws.{PiecesCutARequest, OneScriptHasOnePlan, OneTextHasOneRefusal};
+ghost use Rattle.zd_model.specs.Laws.{OneOutputHasOneHistory, OneReportHasOneHistory};
+ghost use Rattle.zd_model.specs.Laws.{AReportIsAnOutput, AnOutcomeTellsItsStatus};
+ghost use Rattle.zd_model.specs.Laws.{NoBadChunkIsRight, ContentsAreSectors};
+ghost use Rattle.zd_model.specs.Laws.{SameImagesChooseTheSame, SameImagesAreFormedTheSame};
+ghost use Rattle.zd_model.specs.Laws.{SameImagesHaveTheSameContent};
+
+/// A super block is one record's, and a record has one super block.
+pub fn super_block_laws()
+    ensures block { EachRecordHasABlock }
+    ensures one_block { OneRecordHasOneBlock }
+    ensures one_record { OneBlockHasOneRecord }
+    ensures decoded { DecodesToItsRecord }
+{}
+
+/// Requests are cut at the bounds of chunks, and write sectors of 512 bytes.
+pub fn request_laws()
+    ensures pieces { PiecesCutARequest }
+    ensures pattern { PatternsAreSectors }
+{}
+
+/// A script has one plan, other bytes have one refusal, and an output tells one run.
+pub fn text_laws()
+    ensures script { OneScriptHasOnePlan }
+    ensures refusal { OneTextHasOneRefusal }
+    ensures output { OneOutputHasOneHistory }
+    ensures report { OneReportHasOneHistory }
+    ensures ended { AReportIsAnOutput }
+    ensures status { AnOutcomeTellsItsStatus }
+{}
+
+/// What a volume holds depends on what its disk holds, and on nothing else.
+pub fn volume_laws()
+    ensures map { NoBadChunkIsRight }
+    ensures sectors { ContentsAreSectors }
+    ensures chosen { SameImagesChooseTheSame }
+    ensures well_formed { SameImagesAreFormedTheSame }
+    ensures content { SameImagesHaveTheSameContent }
+{}
