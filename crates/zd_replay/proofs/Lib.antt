@@ -2,3 +2,4 @@ pub mod OpeningLaws
 pub mod PieceLaws
 pub mod ZeroLaws
 pub mod ReadsLaws
+pub mod LineText

@@ -29,7 +29,7 @@ use Rattle.zd_replay.proofs.PieceLaws.{IsRead, inside}
 abbrev pub zero_blocks : ℕ → List (List ℕ)
 zero_blocks n = replicate (n * 8) zero_sector
 
-same_everywhere : {X : Type 0} (f : ℕ → X) (x : X) (a n : ℕ) → ((i : ℕ) → a ≤ i → i < a + n → f i ≡ x) → map f (range_with_len a n) ≡ replicate n x
+pub same_everywhere : {X : Type 0} (f : ℕ → X) (x : X) (a n : ℕ) → ((i : ℕ) → a ≤ i → i < a + n → f i ≡ x) → map f (range_with_len a n) ≡ replicate n x
 same_everywhere f x a zero all = refl
 same_everywhere {X} f x a (suc n) all =
     ap₂ (λ (y : X) (ys : List X). y ∷ ys) (all a (omega arith) (omega arith)) (same_everywhere f x (a + 1) n (λ i from below. all i (omega arith) (omega arith)))

@@ -1,0 +1,26 @@
+use Rattle.std.proofs.Common.{sym, ◌∙◌}
+use Rattle.std.specs.Prelude.{string_bytes}
+use Rattle.zd_model.specs.Entries.{entry_of}
+use Rattle.zd_replay.proofs.LineText.{entry_line}
+use Rattle.zd_replay.proofs.report.add_line.Goals as goal
+
+-- each field in turn, from the last back to the first
+pub returns : goal.returns
+returns c =
+    c.in_ok-push_str-3.ensures.bytes ∙ rw (
+      c.in_ok-add_number.ensures,
+      c.in_ok-push_str-2.ensures.bytes,
+      c.in_ok-add_reply.ensures,
+      c.in_ok-add_field-5.ensures,
+      c.in_ok-add_field-4.ensures,
+      c.in_ok-push_str.ensures.bytes,
+      c.in_ok-add_field-3.ensures,
+      c.in_ok-add_field-2.ensures,
+      c.in_ok-add_field.ensures,
+      c.from.ensures,
+      c.from-2.ensures,
+      c.from-3.ensures,
+      c.first_block.ensures,
+      c.from-4.ensures,
+      c.block_count.ensures,
+    ) (sym (entry_line (entry_of c.args.entry.now) (string_bytes c.args.text.now) c.requires.zeros))
