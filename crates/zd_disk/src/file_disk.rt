@@ -170,3 +170,6 @@ impl<F: Read + Write + Seek + OpenFile + Drop> ZonedDisk for FileDisk<F> {
         counted(&mut self.faults, answer)
     }
 }
+
+#[cfg(test)]
+mod tests;

@@ -208,3 +208,6 @@ impl<F: Read + Write + Seek + OpenFile + Drop> ImageFile<F> {
         self.file.sync_all().map_err(|_| Failed)
     }
 }
+
+#[cfg(test)]
+mod tests;
