@@ -30,7 +30,7 @@ times-xor m n p =
       ]
     ]
 
--- a bit of the crc is linear
+-- a bit of the crc is linear, and so are n of them
 crc_bit-xor : (a b : ℕ) → crc_bit (bit_xor a b) ≡ bit_xor (crc_bit a) (crc_bit b)
 crc_bit-xor a b =
     ap₂ (λ n k. bit_xor n (k * 0xEDB88320)) (xor_shr a b 1) (xor_mod a b 1)
@@ -48,6 +48,7 @@ crc_bit-double a =
     let low : a * 2 % 2 ≡ 0 = omega arith in
     ap₂ (λ n k. bit_xor n (k * 0xEDB88320)) half low ∙ xor_zero_r a
 
+-- and so do n of them
 crc_bits-shifted : (n a : ℕ) → crc_bits n (a * 2 ^ n) ≡ a
 crc_bits-shifted zero a = omega arith
 crc_bits-shifted (suc n) a =
@@ -66,18 +67,22 @@ crc_bits_8 : (n : ℕ) → crc_bits 8 n ≡ bit_xor (n / 256) (crc_bits 8 (n % 2
 crc_bits_8 n =
     let whole : n / 256 * 256 + n % 256 ≡ n = omega arith in
     let parts : bit_xor (n / 256 * 256) (n % 256) ≡ n = split (n / 256) (n % 256) (omega arith) ∙ whole in
-    ap (crc_bits 8) (sym parts) ∙ crc_bits-xor 8 (n / 256 * 256) (n % 256) ∙ ap (λ k. bit_xor k (crc_bits 8 (n % 256))) (crc_bits-shifted 8 (n / 256))
+    ap (crc_bits 8) (sym parts)
+    ∙ crc_bits-xor 8 (n / 256 * 256) (n % 256)
+    ∙ ap (λ k. bit_xor k (crc_bits 8 (n % 256))) (crc_bits-shifted 8 (n / 256))
 
--- the upper part is that of the crc, since a byte has none
-pub step_bits : (c b : ℕ) → b < 256 → bit_xor (c / 256) (crc_bits 8 (bit_xor c b % 256)) ≡ crc_bits 8 (bit_xor c b)
-step_bits c b small =
-    let high : b / 256 ≡ 0 = omega arith in
-    let part : bit_xor c b / 256 ≡ c / 256 = xor_shr c b 8 ∙ ap (bit_xor (c / 256)) high ∙ xor_zero_r (c / 256) in
-    ap (λ k. bit_xor k (crc_bits 8 (bit_xor c b % 256))) (sym part) ∙ sym (crc_bits_8 (bit_xor c b))
+-- the upper part of the sum is that of the crc, since a byte has none
+pub crc_bits_8-xor : (c b : ℕ) → b < 256 → crc_bits 8 (bit_xor c b) ≡ bit_xor (c / 256) (crc_bits 8 (bit_xor c b % 256))
+crc_bits_8-xor c b small =
+    let none : b / 256 ≡ 0 = omega arith in
+    let upper : bit_xor c b / 256 ≡ c / 256 = xor_shr c b 8 ∙ ap (bit_xor (c / 256)) none ∙ xor_zero_r (c / 256) in
+    crc_bits_8 (bit_xor c b) ∙ ap (λ k. bit_xor k (crc_bits 8 (bit_xor c b % 256))) upper
 
 -- each entry of the table is what eight bits make of its place
-table_is : TABLE ≡ map (crc_bits 8) (range_with_len 0 256)
-table_is = refl
+table_lem : TABLE ≡ map (crc_bits 8) (range_with_len 0 256)
+table_lem = refl
 
-pub entry_is : (k : ℕ) → k < 256 → get_or TABLE k 0 ≡ crc_bits 8 k
-entry_is k inside = ap (λ entries. get_or entries k 0) table_is ∙ get_or-map-range_with_len (crc_bits 8) 0 256 k k 0 inside (zero-add k)
+pub get_or-table : (k : ℕ) → k < 256 → get_or TABLE k 0 ≡ crc_bits 8 k
+get_or-table k inside =
+    ap (λ entries. get_or entries k 0) table_lem
+    ∙ get_or-map-range_with_len (crc_bits 8) 0 256 k k 0 inside (zero-add k)

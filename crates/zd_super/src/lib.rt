@@ -9,3 +9,6 @@ mod table;
 pub use block::decode;
 pub use crc::crc32_le;
 pub use zd_model::{Layout, NotSuper, Super};
+
+#[cfg(test)]
+mod tests;

@@ -1,0 +1,95 @@
+//! Values from outside: those of the crc's definition, and the super blocks of a fresh volume on a
+//! disk of 6 conventional and 6 sequential zones of 16 blocks.
+
+ghost use Rattle.std.specs.Prelude.{◌<◌};
+
+use super::*;
+use uuid::Uuid;
+
+/// The 16 bytes 705d13ab-1a26-52ae-a1fa-3108df8326ab.
+const DEVICE: [u8; 16] = [
+    0x70, 0x5d, 0x13, 0xab, 0x1a, 0x26, 0x52, 0xae, 0xa1, 0xfa, 0x31, 0x08, 0xdf, 0x83, 0x26, 0xab,
+];
+
+/// The crc of the super block of the first set.
+const FIRST_CRC: [u8; 4] = [0x2c, 0xae, 0x2e, 0xf3];
+
+/// A super block of the volume, with its own number and its crc.
+fn super_block(own: u8, crc: [u8; 4]) -> [u8; 4096] {
+    let mut block = [0; 4096];
+    block[0..4].copy_from_slice(&[0x44, 0x42, 0x5a, 0x44]);
+    block[4] = 2;
+    block[8] = 1;
+    block[16] = own;
+    block[24] = 14;
+    block[28] = 2;
+    block[32] = 8;
+    block[36] = 1;
+    block[40] = 12;
+    block[44..48].copy_from_slice(&crc);
+    block[86] = 0x40;
+    block[88] = 0x80;
+    block[95] = 1;
+    block[96..112].copy_from_slice(&DEVICE);
+    block
+}
+
+/// The super block of the first set with one byte changed, and this crc.
+fn changed(at: usize, byte: u8, crc: [u8; 4]) -> [u8; 4096]
+    requires { at < 4096 }
+{
+    let mut block = super_block(0, crc);
+    block[at] = byte;
+    block
+}
+
+/// The head of a set of the volume.
+fn head(own: u64) -> Super {
+    let mut volume = [0; 16];
+    volume[6] = 0x40;
+    volume[8] = 0x80;
+    volume[15] = 1;
+    Super {
+        generation: 1,
+        own,
+        layout: Layout {
+            meta_blocks: 14,
+            reserved: 2,
+            chunks: 8,
+            map_blocks: 1,
+            bitmap_blocks: 12,
+        },
+        label: [0; 32],
+        volume: Uuid::from_bytes(volume),
+        device: Uuid::from_bytes(DEVICE),
+    }
+}
+
+/// The complement of the well-known check value, zeros, and no bytes.
+#[test]
+fn crc_of_known_bytes(rt: HostRuntime) {
+    assert_eq!(rt; crc32_le(0xFFFF_FFFF, b"123456789"), 0x340B_C6D9);
+    assert_eq!(rt; crc32_le(0, &[0; 4096]), 0);
+    assert_eq!(rt; crc32_le(5, &[]), 5);
+}
+
+#[test]
+fn decodes_both_super_blocks_of_a_fresh_volume(rt: HostRuntime) {
+    let first = super_block(0, FIRST_CRC);
+    let second = super_block(16, [0x4a, 0x0e, 0xf8, 0x4d]);
+    assert_eq!(rt; decode(&first), Ok(head(0)));
+    assert_eq!(rt; decode(&second), Ok(head(16)));
+}
+
+/// The crc is made right only for the last block, so the order of the tests shows too.
+#[test]
+fn refuses_changed_blocks(rt: HostRuntime) {
+    let magic = changed(3, 0x45, FIRST_CRC);
+    let version = changed(4, 3, FIRST_CRC);
+    let crc = changed(200, 1, FIRST_CRC);
+    let tail = changed(200, 1, [0x06, 0xe3, 0xfc, 0x73]);
+    assert_eq!(rt; decode(&magic), Err(NotSuper::Magic));
+    assert_eq!(rt; decode(&version), Err(NotSuper::Version));
+    assert_eq!(rt; decode(&crc), Err(NotSuper::Crc));
+    assert_eq!(rt; decode(&tail), Err(NotSuper::Tail));
+}
