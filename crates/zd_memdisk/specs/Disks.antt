@@ -1,10 +1,11 @@
 -- What contracts see of a disk in memory.
-use Rattle.std.specs.Prelude.{◌≡◌, ℕ, ◌*◌, ◌/◌, if◌then◌else◌, List, take, Option}
+use Rattle.std.specs.Prelude.{◌≡◌, ℕ, ◌*◌, ◌/◌, IsTrue, if◌then◌else◌, List, take, Option, Some}
 use Rattle.zd_base.specs.Geometry.{Shape}
-use Rattle.zd_model.specs.Image.{Image}
+use Rattle.zd_model.specs.Image.{Image, IsImage}
 use Rattle.zd_disk.specs.Steps.{count_of}
 use Rattle.zd_disk.specs.Told.{next_count}
 use Rattle.zd_memdisk.specs.Fails.{names, all_counted}
+use Rattle.zd_memdisk.specs.Laws.{agrees_of, shaped_of}
 use Rattle.zd_memdisk.specs.Stores.{store_image}
 use Rattle.zd_memdisk.specs.declared.fails.DeviceCall.{DeviceCall}
 use Rattle.zd_memdisk.specs.declared.fails.Fail.{Fail}
@@ -30,6 +31,10 @@ disk_faults d = d.faults
 abbrev pub disk_fails : MemDisk → List Fail
 disk_fails d = d.fails.items
 
+-- the list says that such a call fails now
+abbrev pub Names : MemDisk → DeviceCall → Option ℕ → Type 0
+Names d call zone = IsTrue (names (disk_fails d) call zone)
+
 -- each item that means the call has counted it, and the call is a fault where an item named it
 pub record HasCounted (call : DeviceCall) (zone : Option ℕ) (old new : MemDisk) : Type 0 where
   pub fails : disk_fails new ≡ all_counted (disk_fails old) call zone
@@ -38,3 +43,10 @@ pub record HasCounted (call : DeviceCall) (zone : Option ℕ) (old new : MemDisk
 -- the first half of some sectors, rounded down
 abbrev pub front_half : List ℕ → List ℕ
 front_half bytes = take (512 * (count_of bytes / 2)) bytes
+
+-- what it tells of itself agrees
+pub disk_agrees : (d : MemDisk) (i : Image) → ◌≡◌ {A = Option Image} (Some (disk_image d)) (Some i) → ◌≡◌ {A = Option Shape} (Some (disk_geometry d)) (Some i.geometry)
+disk_agrees d i e = agrees_of d.store.geometry d.store.zones.items d.store.pointers.items i e
+
+pub disk_shaped : (d : MemDisk) (i : Image) → ◌≡◌ {A = Option Image} (Some (disk_image d)) (Some i) → IsImage i
+disk_shaped d i e = shaped_of d.store.geometry d.store.zones.items d.store.pointers.items d.store.stored i e

@@ -6,10 +6,8 @@ ghost use Rattle.zd_base.specs.Geometry.{zone_sectors};
 ghost use Rattle.zd_model.specs.Image.{run_of};
 ghost use Rattle.zd_disk.specs.Steps.{count_of, Wrote, WasReset};
 ghost use Rattle.zd_disk.specs.Told.{next_count, IsSequentialZone, IsInside};
-ghost use Rattle.zd_memdisk.specs.Fails.{names, all_counted};
 ghost use Rattle.zd_memdisk.specs.Stored.{IsBlank};
-ghost use Rattle.zd_memdisk.specs.Laws.{agrees_of, shaped_of};
-ghost use Rattle.zd_memdisk.specs.Disks.{disk_geometry, disk_image, disk_calls, disk_faults, disk_fails, front_half, HasCounted};
+ghost use Rattle.zd_memdisk.specs.Disks.{disk_geometry, disk_image, disk_calls, disk_faults, disk_fails, Names, HasCounted, front_half, disk_agrees, disk_shaped};
 
 use crate::fails::{DeviceCall, Fail, count_call};
 use crate::store::Store;
@@ -74,7 +72,7 @@ impl MemDisk {
 
     // Counts a call at the list, which says whether it fails.
     fn answer(&mut self, call: DeviceCall, zone: Option<ZoneNo>) -> Result<(), Failed>
-        ensures named { IsErr result ↔ IsTrue (names (disk_fails self.old) call zone) }
+        ensures named { IsErr result ↔ Names self.old call zone }
         ensures counted { HasCounted call zone self.old self.new }
         ensures cause { HasCause (disk_faults self.old) (disk_faults self.new) result }
         ensures same { (self.new.store ≡ self.old.store) × (self.new.calls ≡ self.old.calls) }
@@ -96,9 +94,9 @@ impl ZonedDisk for MemDisk {
 
     ghost faults = { λ d. disk_faults d };
 
-    ghost agrees = { λ d i e. agrees_of d.store.geometry d.store.zones.items d.store.pointers.items i e };
+    ghost agrees = { disk_agrees };
 
-    ghost shaped = { λ d i e. shaped_of d.store.geometry d.store.zones.items d.store.pointers.items d.store.stored i e };
+    ghost shaped = { disk_shaped };
 
     fn geometry(&mut self) -> Result<Geometry, Failed>
         ensures value { IfOk result (λ g. g ≡ disk_geometry self.old) }
@@ -106,7 +104,7 @@ impl ZonedDisk for MemDisk {
         ensures zones { disk_image self.new ≡ disk_image self.old }
         ensures calls { disk_calls self.new ≡ disk_calls self.old }
         ensures faults { HasCounted DeviceCall.Geometry None self.old self.new }
-        ensures named { IsErr result ↔ IsTrue (names (disk_fails self.old) DeviceCall.Geometry None) }
+        ensures named { IsErr result ↔ Names self.old DeviceCall.Geometry None }
         ensures cause { HasCause (disk_faults self.old) (disk_faults self.new) result }
     {
         self.answer(DeviceCall::Geometry, None)?;
@@ -121,7 +119,7 @@ impl ZonedDisk for MemDisk {
         ensures zones { disk_image self.new ≡ disk_image self.old }
         ensures calls { disk_calls self.new ≡ disk_calls self.old }
         ensures faults { HasCounted DeviceCall.Report (Some zone) self.old self.new }
-        ensures named { IsErr result ↔ IsTrue (names (disk_fails self.old) DeviceCall.Report (Some zone)) }
+        ensures named { IsErr result ↔ Names self.old DeviceCall.Report (Some zone) }
         ensures cause { HasCause (disk_faults self.old) (disk_faults self.new) result }
     {
         self.answer(DeviceCall::Report, Some(zone))?;
@@ -138,7 +136,7 @@ impl ZonedDisk for MemDisk {
         ensures zones { disk_image self.new ≡ disk_image self.old }
         ensures calls { disk_calls self.new ≡ disk_calls self.old }
         ensures faults { HasCounted DeviceCall.Read (Some zone) self.old self.new }
-        ensures named { IsErr result ↔ IsTrue (names (disk_fails self.old) DeviceCall.Read (Some zone)) }
+        ensures named { IsErr result ↔ Names self.old DeviceCall.Read (Some zone) }
         ensures cause { HasCause (disk_faults self.old) (disk_faults self.new) result }
     {
         self.answer(DeviceCall::Read, Some(zone))?;
@@ -156,7 +154,7 @@ impl ZonedDisk for MemDisk {
         ensures told { disk_geometry self.new ≡ disk_geometry self.old }
         ensures calls { disk_calls self.new ≡ next_count (disk_calls self.old) }
         ensures faults { HasCounted DeviceCall.Write (Some zone) self.old self.new }
-        ensures named { IsErr result ↔ IsTrue (names (disk_fails self.old) DeviceCall.Write (Some zone)) }
+        ensures named { IsErr result ↔ Names self.old DeviceCall.Write (Some zone) }
         ensures cause { HasCause (disk_faults self.old) (disk_faults self.new) result }
     {
         self.calls = self.calls.saturating_add(1);
@@ -176,7 +174,7 @@ impl ZonedDisk for MemDisk {
         ensures told { disk_geometry self.new ≡ disk_geometry self.old }
         ensures calls { disk_calls self.new ≡ next_count (disk_calls self.old) }
         ensures faults { HasCounted DeviceCall.Reset (Some zone) self.old self.new }
-        ensures named { IsErr result ↔ IsTrue (names (disk_fails self.old) DeviceCall.Reset (Some zone)) }
+        ensures named { IsErr result ↔ Names self.old DeviceCall.Reset (Some zone) }
         ensures cause { HasCause (disk_faults self.old) (disk_faults self.new) result }
     {
         self.calls = self.calls.saturating_add(1);
@@ -190,10 +188,13 @@ impl ZonedDisk for MemDisk {
         ensures told { disk_geometry self.new ≡ disk_geometry self.old }
         ensures calls { disk_calls self.new ≡ next_count (disk_calls self.old) }
         ensures faults { HasCounted DeviceCall.Flush None self.old self.new }
-        ensures named { IsErr result ↔ IsTrue (names (disk_fails self.old) DeviceCall.Flush None) }
+        ensures named { IsErr result ↔ Names self.old DeviceCall.Flush None }
         ensures cause { HasCause (disk_faults self.old) (disk_faults self.new) result }
     {
         self.calls = self.calls.saturating_add(1);
         self.answer(DeviceCall::Flush, None)
     }
 }
+
+#[cfg(test)]
+mod tests;
