@@ -2,6 +2,7 @@
 
 ghost use Rattle.zd_model.specs.Laws.{EachRecordHasABlock, OneRecordHasOneBlock};
 ghost use Rattle.zd_model.specs.Laws.{OneBlockHasOneRecord, DecodesToItsRecord, PatternsAreSectors};
+ghost use Rattle.zd_model.specs.Laws.{HistoriesPartAtTheLastFlush};
 ghost use Rattle.zd_model.specs.Laws.{PiecesCutARequest, OneScriptHasOnePlan, OneTextHasOneRefusal};
 ghost use Rattle.zd_model.specs.Laws.{OneOutputHasOneHistory, OneReportHasOneHistory};
 ghost use Rattle.zd_model.specs.Laws.{AReportIsAnOutput, AnOutcomeTellsItsStatus};
@@ -17,10 +18,12 @@ pub fn super_block_laws()
     ensures decoded { DecodesToItsRecord }
 {}
 
-/// Requests are cut at the bounds of chunks, and write sectors of 512 bytes.
+/// Requests are cut at the bounds of chunks, write sectors of 512 bytes, and are flushed up to the
+/// last flush.
 pub fn request_laws()
     ensures pieces { PiecesCutARequest }
     ensures pattern { PatternsAreSectors }
+    ensures flush { HistoriesPartAtTheLastFlush }
 {}
 
 /// A script has one plan, other bytes have one refusal, and an output tells one run.
