@@ -13,18 +13,18 @@ use Rattle.zd_model.specs.Faults.{has, is_right_entry, bad_chunk}
 use Rattle.zd_base.specs.declared.layout.Layout.{Layout}
 use Rattle.zd_model.specs.declared.metadata.MapEntry.{MapEntry}
 
-both : (b c : Bool) → (b && c) ≡ true → (b ≡ true) × (c ≡ true)
+pub both : (b c : Bool) → (b && c) ≡ true → (b ≡ true) × (c ≡ true)
 both true c h = (refl, h)
 both false c h = cc
 
-some_is : (y z : ℕ) → ◌≡◌ {A = Option ℕ} (Some y) (Some z) → y ≡ z
+pub some_is : (y z : ℕ) → ◌≡◌ {A = Option ℕ} (Some y) (Some z) → y ≡ z
 some_is y z e = cc
 
-none_some : (z : ℕ) → ◌≡◌ {A = Option ℕ} None (Some z) → ⊥
+pub none_some : (z : ℕ) → ◌≡◌ {A = Option ℕ} None (Some z) → ⊥
 none_some z e = cc
 
 -- a test that all zones of an entry pass
-all_named : (p : ℕ → Bool) (zone buffer : Option ℕ) (z : ℕ) → list_all p (zones_of (record { zone = zone; buffer = buffer })) ≡ true → (zone ≡ Some z) ⊎ (buffer ≡ Some z) → p z ≡ true
+pub all_named : (p : ℕ → Bool) (zone buffer : Option ℕ) (z : ℕ) → list_all p (zones_of (record { zone = zone; buffer = buffer })) ≡ true → (zone ≡ Some z) ⊎ (buffer ≡ Some z) → p z ≡ true
 all_named p None None z h (inl e) = absurd (none_some z e)
 all_named p None None z h (inr e) = absurd (none_some z e)
 all_named p None (Some b) z h (inl e) = absurd (none_some z e)
@@ -34,11 +34,11 @@ all_named p (Some y) None z h (inr e) = absurd (none_some z e)
 all_named p (Some y) (Some b) z h (inl e) = ap p (sym (some_is y z e)) ∙ (both (p y) (p b && true) h).0
 all_named p (Some y) (Some b) z h (inr e) = ap p (sym (some_is b z e)) ∙ (both (p b) true (both (p y) (p b && true) h).1).0
 
-or_right : (b : Bool) → (b || true) ≡ true
+pub or_right : (b : Bool) → (b || true) ≡ true
 or_right true = refl
 or_right false = refl
 
-has_named : (zone buffer : Option ℕ) (z : ℕ) → (zone ≡ Some z) ⊎ (buffer ≡ Some z) → has (zones_of (record { zone = zone; buffer = buffer })) z ≡ true
+pub has_named : (zone buffer : Option ℕ) (z : ℕ) → (zone ≡ Some z) ⊎ (buffer ≡ Some z) → has (zones_of (record { zone = zone; buffer = buffer })) z ≡ true
 has_named None None z (inl e) = absurd (none_some z e)
 has_named None None z (inr e) = absurd (none_some z e)
 has_named None (Some b) z (inl e) = absurd (none_some z e)
@@ -70,7 +70,7 @@ pub record AreRight (g : Shape) (l : Layout) (earlier : List ℕ) (entries : Lis
   pub apart : (c d z : ℕ) → c < d → Names (get_or entries c unmapped) z → Names (get_or entries d unmapped) z → ⊥
   pub buffers : (c b : ℕ) → (get_or entries c unmapped).buffer ≡ Some b → (b < g.conv) × IsSomeAnd (get_or entries c unmapped).zone (λ z. g.conv ≤ z)
 
-no_name : (z : ℕ) → Names unmapped z → ⊥
+pub no_name : (z : ℕ) → Names unmapped z → ⊥
 no_name z (inl e) = none_some z e
 no_name z (inr e) = none_some z e
 
@@ -78,10 +78,10 @@ passed : (b : Bool) (o : Option ℕ) (n : ℕ) → ◌≡◌ {A = Option ℕ} (c
 passed true o n h = (refl, h)
 passed false o n h = absurd (none_some n (sym h))
 
-apart_bools : (x : Bool) → x ≡ true → x ≡ false → ⊥
+pub apart_bools : (x : Bool) → x ≡ true → x ≡ false → ⊥
 apart_bools x h k = cc
 
-split_or : (x y : Bool) → (x || y) ≡ false → (x ≡ false) × (y ≡ false)
+pub split_or : (x y : Bool) → (x || y) ≡ false → (x ≡ false) × (y ≡ false)
 split_or true y h = cc
 split_or false y h = (refl, h)
 
