@@ -149,7 +149,7 @@ module _ (g : Shape) (l : Layout) (pointer : ℕ → ℕ) (t : Tables) (map_rule
 -- and where the rules hold, no bit is bad
 module _ (g : Shape) (pointer : ℕ → ℕ) (t : Tables) (rules : BitsFollowRules g pointer t) where
   not_twice : (c z x : ℕ) (zone buffer : Option ℕ) → (entry_of t c).zone ≡ zone → (entry_of t c).buffer ≡ buffer → x < g.zone_blocks → is_valid t z x ≡ true → not (is_twice t (z, x) (record { zone = zone; buffer = buffer })) ≡ true
-  not_twice c z x zone None e f within valid = refl
+  not_twice c z x _ None e f within valid = refl
   not_twice c z x None (Some b) e f within valid = by_test (eqb b z)
     where
       by_test : (v : Bool) → not (v && false) ≡ true

@@ -7,8 +7,8 @@ use Rattle.zd_model.specs.Image.{Image, IsImage, Same}
 use Rattle.zd_model.specs.Text.{numeral}
 use Rattle.zd_model.specs.Volume.{Chosen, IsWellFormed, chosen, content}
 use Rattle.zd_base.specs.Geometry.{Shape, IsShape}
-use Rattle.zd_model.specs.Faults.{bad_chunk}
-use Rattle.zd_model.specs.Tables.{MapFollowsRules}
+use Rattle.zd_model.specs.Faults.{bad_bit, bad_chunk}
+use Rattle.zd_model.specs.Tables.{BitsFollowRules, MapFollowsRules, Tables}
 use Rattle.zd_base.specs.declared.layout.Layout.{Layout}
 use Rattle.zd_model.specs.declared.metadata.MapEntry.{MapEntry}
 use Rattle.zd_model.specs.Super.{IsSuper, HasSizes, decoded, block_of}
@@ -90,10 +90,15 @@ HistoriesPartAtTheLastFlush = (k : ℕ) (history : List HistoryEntry) →
     × (last_or None (flushed k history) ≡ last_flush k history)
     × (last_flush k (unflushed k history) ≡ None)
 
--- a map in which no chunk is bad follows the rules of a map
+-- a map follows the rules exactly where no chunk is bad
 abbrev pub NoBadChunkIsRight : Type 0
 NoBadChunkIsRight = (g : Shape) (l : Layout) (entries : List MapEntry) →
-    bad_chunk g l [] 0 entries ≡ None → MapFollowsRules g l entries
+    (bad_chunk g l [] 0 entries ≡ None) ↔ MapFollowsRules g l entries
+
+-- beside such a map, bitmaps follow the rules exactly where no bit is bad
+abbrev pub NoBadBitIsRight : Type 0
+NoBadBitIsRight = (g : Shape) (l : Layout) (pointer : ℕ → ℕ) (t : Tables) →
+    MapFollowsRules g l t.entries → (bad_bit g pointer t ≡ None) ↔ BitsFollowRules g pointer t
 
 -- bytes that are refused are no script, and are refused in one line for one rule
 abbrev pub OneTextHasOneRefusal : Type 0

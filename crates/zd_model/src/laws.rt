@@ -6,7 +6,7 @@ ghost use Rattle.zd_model.specs.Laws.{HistoriesPartAtTheLastFlush};
 ghost use Rattle.zd_model.specs.Laws.{PiecesCutARequest, OneScriptHasOnePlan, OneTextHasOneRefusal};
 ghost use Rattle.zd_model.specs.Laws.{OneOutputHasOneHistory, OneReportHasOneHistory};
 ghost use Rattle.zd_model.specs.Laws.{AReportIsAnOutput, AnOutcomeTellsItsStatus};
-ghost use Rattle.zd_model.specs.Laws.{NoBadChunkIsRight, ContentsAreSectors};
+ghost use Rattle.zd_model.specs.Laws.{NoBadChunkIsRight, NoBadBitIsRight, ContentsAreSectors};
 ghost use Rattle.zd_model.specs.Laws.{SameImagesChooseTheSame, SameImagesAreFormedTheSame};
 ghost use Rattle.zd_model.specs.Laws.{SameImagesHaveTheSameContent};
 
@@ -36,9 +36,11 @@ pub fn text_laws()
     ensures status { AnOutcomeTellsItsStatus }
 {}
 
-/// What a volume holds depends on what its disk holds, and on nothing else.
+/// The rules of a volume's tables and the first one that is broken are the same rules; and what a
+/// volume holds depends on what its disk holds, and on nothing else.
 pub fn volume_laws()
     ensures map { NoBadChunkIsRight }
+    ensures bits { NoBadBitIsRight }
     ensures sectors { ContentsAreSectors }
     ensures chosen { SameImagesChooseTheSame }
     ensures well_formed { SameImagesAreFormedTheSame }
