@@ -1,14 +1,14 @@
 -- What follows from the definitions.
 use Rattle.std.specs.Prelude.{◌≡◌, ◌↔◌, ℕ, ◌+◌, ◌*◌, ◌≤◌, false, None, List, [], ◌∷◌, ◌++◌, map, Ok}
 use Rattle.std.specs.Prelude.{All, codes, length}
-use Rattle.std.specs.List.{AllByRecursion}
+use Rattle.std.specs.List.{AllByRecursion, last_or}
 use Rattle.zd_model.specs.Bytes.{AreBytes, IsSector}
 use Rattle.zd_model.specs.Image.{Image, IsImage, Same}
 use Rattle.zd_model.specs.Text.{numeral}
 use Rattle.zd_model.specs.Volume.{Chosen, IsWellFormed, chosen, content}
 use Rattle.zd_base.specs.Geometry.{Shape, IsShape}
-use Rattle.zd_model.specs.Faults.{bad_chunk}
-use Rattle.zd_model.specs.Tables.{MapFollowsRules}
+use Rattle.zd_model.specs.Faults.{bad_bit, bad_chunk}
+use Rattle.zd_model.specs.Tables.{BitsFollowRules, MapFollowsRules, Tables}
 use Rattle.zd_base.specs.declared.layout.Layout.{Layout}
 use Rattle.zd_model.specs.declared.metadata.MapEntry.{MapEntry}
 use Rattle.zd_model.specs.Super.{IsSuper, HasSizes, decoded, block_of}
@@ -23,6 +23,7 @@ use Rattle.zd_model.specs.declared.metadata.Super.{Super}
 use Rattle.zd_model.specs.declared.requests.Request.{Request}
 use Rattle.zd_model.specs.declared.requests.Piece.{Piece}
 use Rattle.zd_model.specs.History.{HistoryEntry}
+use Rattle.zd_model.specs.Stops.{flushed, last_flush, unflushed}
 use Rattle.zd_model.specs.declared.texts.BadLine.{BadLine}
 use Rattle.zd_model.specs.declared.requests.Ending.{Ending}
 
@@ -75,17 +76,29 @@ AReportIsAnOutput = (history : List HistoryEntry) (ending : Ending) →
 
 -- the line of an outcome begins with its status
 abbrev pub AnOutcomeTellsItsStatus : Type 0
-AnOutcomeTellsItsStatus = (outcome : Outcome) →
-    (rest : List ℕ) × (outcome_text outcome ≡ codes "end " ++ numeral (status_of outcome) ++ 32 ∷ rest)
+AnOutcomeTellsItsStatus = (outcome : Outcome) → (rest : List ℕ) ×
+    (outcome_text outcome ≡ codes "end " ++ numeral (status_of outcome) ++ 32 ∷ rest)
 
 -- what a write puts into a sector is a sector
 abbrev pub PatternsAreSectors : Type 0
 PatternsAreSectors = (seed i : ℕ) → IsSector (pattern seed i)
 
--- a map in which no chunk is bad follows the rules of a map
+-- a history is parted behind the last flush that was acknowledged when k calls had returned
+abbrev pub HistoriesPartAtTheLastFlush : Type 0
+HistoriesPartAtTheLastFlush = (k : ℕ) (history : List HistoryEntry) →
+    (history ≡ flushed k history ++ unflushed k history)
+    × (last_or None (flushed k history) ≡ last_flush k history)
+    × (last_flush k (unflushed k history) ≡ None)
+
+-- a map follows the rules exactly where no chunk is bad
 abbrev pub NoBadChunkIsRight : Type 0
 NoBadChunkIsRight = (g : Shape) (l : Layout) (entries : List MapEntry) →
-    bad_chunk g l [] 0 entries ≡ None → MapFollowsRules g l entries
+    (bad_chunk g l [] 0 entries ≡ None) ↔ MapFollowsRules g l entries
+
+-- beside such a map, bitmaps follow the rules exactly where no bit is bad
+abbrev pub NoBadBitIsRight : Type 0
+NoBadBitIsRight = (g : Shape) (l : Layout) (pointer : ℕ → ℕ) (t : Tables) →
+    MapFollowsRules g l t.entries → (bad_bit g pointer t ≡ None) ↔ BitsFollowRules g pointer t
 
 -- bytes that are refused are no script, and are refused in one line for one rule
 abbrev pub OneTextHasOneRefusal : Type 0

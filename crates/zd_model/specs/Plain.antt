@@ -53,3 +53,7 @@ reply_to array what =
 -- the plain array after it
 abbrev pub array_after : List (List ℕ) → What → List (List ℕ)
 array_after array what = if ends_past (length array) what then array else within_after array what
+
+-- the plain array: its reply to a request, and what it is after it
+abbrev pub plain : List (List ℕ) → What → Answer × List (List ℕ)
+plain array what = (reply_to array what, array_after array what)

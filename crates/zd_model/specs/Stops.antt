@@ -1,7 +1,8 @@
 -- What a sector may hold after a stop at call k.
 use Rattle.std.specs.Prelude.{◌≡◌, ◌⊎◌, ℕ, ◌+◌, ◌*◌, ◌<◌, ◌≤◌, Bool, true, false, nat_le, ◌&&◌}
-use Rattle.std.specs.Prelude.{if◌then◌else◌, List, [], ◌∷◌, length, slice_index_or}
-use Rattle.std.specs.List.{list_any}
+use Rattle.std.specs.Prelude.{if◌then◌else◌, List, [], ◌∷◌, length, slice_index_or, filter, Option}
+use Rattle.std.specs.Prelude.{None}
+use Rattle.std.specs.List.{list_any, last_or}
 use Rattle.zd_model.specs.Bytes.{zero_sector}
 use Rattle.zd_model.specs.Plain.{pattern, ends_past}
 use Rattle.zd_model.specs.History.{last_array}
@@ -19,6 +20,10 @@ is_done_flush what reply = false
 -- a flush that was acknowledged when k calls had returned
 abbrev pub is_acknowledged : ℕ → HistoryEntry → Bool
 is_acknowledged k e = is_done_flush e.what e.reply && nat_le e.at k
+
+-- the last flush that was acknowledged then, or none
+abbrev pub last_flush : ℕ → List HistoryEntry → Option HistoryEntry
+last_flush k history = last_or None (filter (is_acknowledged k) history)
 
 -- the entries through the last acknowledged flush; none where there is none
 abbrev pub flushed : ℕ → List HistoryEntry → List HistoryEntry

@@ -2,10 +2,11 @@
 
 ghost use Rattle.zd_model.specs.Laws.{EachRecordHasABlock, OneRecordHasOneBlock};
 ghost use Rattle.zd_model.specs.Laws.{OneBlockHasOneRecord, DecodesToItsRecord, PatternsAreSectors};
+ghost use Rattle.zd_model.specs.Laws.{HistoriesPartAtTheLastFlush};
 ghost use Rattle.zd_model.specs.Laws.{PiecesCutARequest, OneScriptHasOnePlan, OneTextHasOneRefusal};
 ghost use Rattle.zd_model.specs.Laws.{OneOutputHasOneHistory, OneReportHasOneHistory};
 ghost use Rattle.zd_model.specs.Laws.{AReportIsAnOutput, AnOutcomeTellsItsStatus};
-ghost use Rattle.zd_model.specs.Laws.{NoBadChunkIsRight, ContentsAreSectors};
+ghost use Rattle.zd_model.specs.Laws.{NoBadChunkIsRight, NoBadBitIsRight, ContentsAreSectors};
 ghost use Rattle.zd_model.specs.Laws.{SameImagesChooseTheSame, SameImagesAreFormedTheSame};
 ghost use Rattle.zd_model.specs.Laws.{SameImagesHaveTheSameContent};
 
@@ -17,10 +18,12 @@ pub fn super_block_laws()
     ensures decoded { DecodesToItsRecord }
 {}
 
-/// Requests are cut at the bounds of chunks, and write sectors of 512 bytes.
+/// Requests are cut at the bounds of chunks, write sectors of 512 bytes, and are flushed up to the
+/// last flush.
 pub fn request_laws()
     ensures pieces { PiecesCutARequest }
     ensures pattern { PatternsAreSectors }
+    ensures flush { HistoriesPartAtTheLastFlush }
 {}
 
 /// A script has one plan, other bytes have one refusal, and an output tells one run.
@@ -33,9 +36,11 @@ pub fn text_laws()
     ensures status { AnOutcomeTellsItsStatus }
 {}
 
-/// What a volume holds depends on what its disk holds, and on nothing else.
+/// The rules of a volume's tables and the first one that is broken are the same rules; and what a
+/// volume holds depends on what its disk holds, and on nothing else.
 pub fn volume_laws()
     ensures map { NoBadChunkIsRight }
+    ensures bits { NoBadBitIsRight }
     ensures sectors { ContentsAreSectors }
     ensures chosen { SameImagesChooseTheSame }
     ensures well_formed { SameImagesAreFormedTheSame }

@@ -1,13 +1,18 @@
 use Rattle.std.proofs.Common.{sym, subst}
 use Rattle.zd_base.specs.Geometry.{IsShape}
-use Rattle.zd_model.proofs.FaultLaws.{map_follows}
+use Rattle.zd_model.proofs.FaultLaws.{map_follows, no_chunk_bad}
+use Rattle.zd_model.proofs.BitLaws.{bits_follow, no_bad_bit}
 use Rattle.zd_model.proofs.SameLaws.{chosen_of_same}
 use Rattle.zd_model.proofs.ContentLaws.{length-content, content-sectors, well_formed_of_same}
 use Rattle.zd_model.proofs.ContentLaws.{content_of_same, same_back}
 use Rattle.zd_model.proofs.laws.volume_laws.Goals as goal
 
 pub returns-clause-map : goal.returns-clause-map
-returns-clause-map c = map_follows
+returns-clause-map c g l entries = (map_follows g l entries, no_chunk_bad g l entries)
+
+pub returns-clause-bits : goal.returns-clause-bits
+returns-clause-bits c g l pointer t map_rules =
+    (bits_follow g l pointer t map_rules, no_bad_bit g pointer t)
 
 pub returns-clause-sectors : goal.returns-clause-sectors
 returns-clause-sectors c image set is_image shape well =

@@ -1,0 +1,5 @@
+//! Worked examples of the definitions, as theorems. The bodies are empty: each clause is an example,
+//! and a wrong definition fails one of them.
+#![tactic(auto)]
+
+pub mod blocks;
