@@ -2,3 +2,4 @@ pub mod Words
 pub mod Reads
 pub mod Opening
 pub mod Script
+pub mod Number

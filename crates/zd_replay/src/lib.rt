@@ -1,5 +1,6 @@
 //! Runs of scripts over a disk, from words and bytes to the report.
 #![tactic(auto)]
 
+mod number;
 mod script;
 mod words;

@@ -1,13 +1,16 @@
 //! Scripts: their bytes from a source, and the plan that these write.
 
-ghost use Rattle.std.specs.Prelude.{◌≡◌, ◌≢◌, ◌<◌, ◌≤◌, length, vec_len, IfOk};
+ghost use Rattle.std.specs.Prelude.{◌≡◌, ◌≢◌, ◌<◌, ◌≤◌, ◌++◌, ℕ, List, length, vec_len, IfOk, IfSome, IfNone};
 ghost use Rattle.zd_base.specs.Faults.{Rose};
 ghost use Rattle.zd_disk.specs.Told.{WhereTold};
 ghost use Rattle.zd_replay.specs.Reads.{IsNoScriptOfReads};
-ghost use Rattle.zd_replay.specs.Script.{ReadsOn};
+ghost use Rattle.zd_model.specs.Script.{HasNumbers, line_text};
+ghost use Rattle.zd_replay.specs.Script.{IsRightRead, ReadsOn};
 ghost use Rattle.zd_replay.specs.declared.script.ScriptFault.TheVariants.{Memory};
 
+use crate::number::field;
 use std::alloc::{AllocError, Global};
+use zd_model::{Request, What};
 use zd_ports::Source;
 
 /// The most bytes of a script.
@@ -83,4 +86,33 @@ pub fn read_all<S: Source>(alloc: Global, from: &mut S) -> Result<Vec<u8>, Scrip
         }
     }
     Err(ScriptFault::NotReads)
+}
+
+/// The read by caller 0 of so many blocks from a block on.
+fn read_of(block: u128, count: u128) -> Option<Request>
+    ensures found { IfSome result (λ r. r ≡ record { caller = 0; what = What.Read block count }) }
+    ensures numbers { IfSome result (λ r. HasNumbers r.what) }
+    ensures none { IfNone result (HasNumbers (What.Read block count) → ⊥) }
+{
+    let block = u64::try_from(block).ok()?;
+    let count = u32::try_from(count).ok()?;
+    if count == 0 {
+        return None;
+    }
+    Some(Request {
+        caller: 0,
+        what: What::Read { block, count },
+    })
+}
+
+/// The request in front of a text, a read by caller 0, and what stands behind its line.
+fn request(text: &[u8]) -> Option<(Request, &[u8])>
+    ensures found { IfSome result (λ found. text.now ≡ line_text found.0 ++ found.1.now) }
+    ensures right { IfSome result (λ found. IsRightRead found.0) }
+    ensures none { IfNone result ((r : Request) (rest : List ℕ) →
+        IsRightRead r → text.now ≢ line_text r ++ rest) }
+{
+    let (block, numbers) = field(text.strip_prefix(b"r 0 ")?, b' ')?;
+    let (count, rest) = field(numbers, b'\n')?;
+    Some((read_of(block, count)?, rest))
 }
