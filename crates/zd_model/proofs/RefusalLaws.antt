@@ -11,21 +11,21 @@ use Rattle.zd_model.specs.declared.requests.Request.{Request}
 use Rattle.zd_model.specs.declared.texts.BadLine.{BadLine}
 use Rattle.zd_model.proofs.LineLaws.{same_line, no_line}
 
-abbrev texts : List Request → List ℕ
+abbrev pub texts : List Request → List ℕ
 texts plan = flat_map line_text plan
 
 -- the second plan goes on where the first ends
-record GoesOn (p q : List Request) (rest more : List ℕ) : Type 0 where
-  first : Request
-  others : List Request
-  plan : q ≡ p ++ first ∷ others
-  text : rest ≡ line_text first ++ (texts others ++ more)
+pub record GoesOn (p q : List Request) (rest more : List ℕ) : Type 0 where
+  pub first : Request
+  pub others : List Request
+  pub plan : q ≡ p ++ first ∷ others
+  pub text : rest ≡ line_text first ++ (texts others ++ more)
 
-record IsSame (p q : List Request) (rest more : List ℕ) : Type 0 where
-  plan : p ≡ q
-  after : rest ≡ more
+pub record IsSame (p q : List Request) (rest more : List ℕ) : Type 0 where
+  pub plan : p ≡ q
+  pub after : rest ≡ more
 
-abbrev Compared : List Request → List Request → List ℕ → List ℕ → Type 0
+abbrev pub Compared : List Request → List Request → List ℕ → List ℕ → Type 0
 Compared p q rest more = IsSame p q rest more ⊎ (GoesOn p q rest more ⊎ GoesOn q p more rest)
 
 with_first : (r s : Request) (p q : List Request) (rest more : List ℕ) → r ≡ s → Compared p q rest more → Compared (r ∷ p) (s ∷ q) rest more
@@ -33,7 +33,7 @@ with_first r s p q rest more e (inl same) = inl (record { plan = ap₂ (λ (x : 
 with_first r s p q rest more e (inr (inl on)) = inr (inl (record { first = on.first; others = on.others; plan = ap₂ (λ (x : Request) (xs : List Request). x ∷ xs) (sym e) on.plan; text = on.text }))
 with_first r s p q rest more e (inr (inr on)) = inr (inr (record { first = on.first; others = on.others; plan = ap₂ (λ (x : Request) (xs : List Request). x ∷ xs) e on.plan; text = on.text }))
 
-compare : (p q : List Request) (rest more : List ℕ) → texts p ++ rest ≡ texts q ++ more → Compared p q rest more
+pub compare : (p q : List Request) (rest more : List ℕ) → texts p ++ rest ≡ texts q ++ more → Compared p q rest more
 compare [] [] rest more e = inl (record { plan = refl; after = e })
 compare [] (s ∷ q) rest more e = inr (inl (record { first = s; others = q; plan = refl; text = e ∙ append_assoc (line_text s) (texts q) more }))
 compare (r ∷ p) [] rest more e = inr (inr (record { first = r; others = p; plan = refl; text = sym e ∙ append_assoc (line_text r) (texts p) rest }))
@@ -41,7 +41,7 @@ compare (r ∷ p) (s ∷ q) rest more e =
     let same = same_line r s (texts p ++ rest) (texts q ++ more) (sym (append_assoc (line_text r) (texts p) rest) ∙ e ∙ append_assoc (line_text s) (texts q) more) in
     with_first r s p q rest more same.request (compare p q rest more same.after)
 
-middle : (P : Request → Type 0) (p : List Request) (r : Request) (q : List Request) → AllByRecursion P (p ++ r ∷ q) → P r
+pub middle : (P : Request → Type 0) (p : List Request) (r : Request) (q : List Request) → AllByRecursion P (p ++ r ∷ q) → P r
 middle P [] r q h = h.0
 middle P (s ∷ p) r q h = middle P p r q h.1
 
@@ -51,7 +51,7 @@ sum-shorter f p r q =
     let whole = ap (sum_by f) (append_assoc p (r ∷ []) q) in
     omega (arith, sum_by-append f (p ++ r ∷ []) q)
 
-shorter : (p : List Request) (r : Request) (q : List Request) → IsWithinLimits (p ++ r ∷ q) → IsWithinLimits (p ++ r ∷ [])
+pub shorter : (p : List Request) (r : Request) (q : List Request) → IsWithinLimits (p ++ r ∷ q) → IsWithinLimits (p ++ r ∷ [])
 shorter p r q h = record {
   requests = let k = h.requests in omega (arith, length-append p (r ∷ q), length-append p (r ∷ []));
   moved = let k = h.moved in omega (arith, sum-shorter (λ (r : Request). moved_blocks r.what) p r q);

@@ -3,3 +3,4 @@ pub mod Reads
 pub mod Opening
 pub mod Script
 pub mod Run
+pub mod Number

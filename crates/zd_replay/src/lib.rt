@@ -1,6 +1,7 @@
 //! Runs of scripts over a disk, from words and bytes to the report.
 #![tactic(auto)]
 
+mod number;
 mod report;
 mod run;
 mod script;

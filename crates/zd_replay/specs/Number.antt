@@ -1,0 +1,25 @@
+-- A number in front of a text.
+use Rattle.std.specs.Prelude.{◌≡◌, ℕ, ◌+◌, ◌-◌, ◌*◌, ◌≤◌, List, [], ◌∷◌, ◌++◌, length, take, drop, All}
+use Rattle.std.specs.Char.{IsAsciiDigit}
+use Rattle.zd_model.specs.Text.{numeral}
+
+-- the number that digits write behind those of n
+abbrev pub value_after : ℕ → List ℕ → ℕ
+value_after n [] = n
+value_after n (digit ∷ digits) = value_after (n * 10 + (digit - 48)) digits
+
+-- the first byte is no digit
+abbrev pub BeginsOther : List ℕ → Type 0
+BeginsOther [] = ⊥
+BeginsOther (byte ∷ rest) = IsAsciiDigit byte → ⊥
+
+-- so many digits stand in front, and no digit behind them
+pub record BeginsDigits (text : List ℕ) (count : ℕ) : Type 0 where
+  pub within : count ≤ length text
+  pub digits : All IsAsciiDigit (take count text)
+  pub ends : BeginsOther (drop count text)
+
+-- the number n stands in front, and no digit behind it
+pub record HasNumber (text : List ℕ) (n : ℕ) (rest : List ℕ) : Type 0 where
+  pub is : text ≡ numeral n ++ rest
+  pub ends : BeginsOther rest
