@@ -5,3 +5,6 @@ pub mod NumberLaws
 pub mod PlanLaws
 pub mod ReadsLaws
 pub mod LineText
+pub mod SinkLaws
+pub mod ReportLaws
+pub mod RunLaws

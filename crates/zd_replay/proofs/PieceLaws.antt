@@ -21,11 +21,13 @@ ReadsSome what = ⊥
 -- a part of a read is a read that ends past the device where the whole does
 record IsPart (sectors : ℕ) (past : Bool) (part : What) : Type 0 where
   reads : Reads part
+  some : 1 ≤ block_count part
   marked : ends_past sectors part ≡ past
 
 -- a piece that is a read, marked as it has to be
 pub record IsRead (sectors : ℕ) (p : Piece) : Type 0 where
   pub reads : Reads p.what
+  pub some : 1 ≤ block_count p.what
   pub marked : ends_past sectors p.what ≡ p.range
 
 -- cuts go up
@@ -49,12 +51,12 @@ cut_inside sectors z from to b n [] fits h = tt
 cut_inside sectors z from to b n (i ∷ is) fits h =
     let part : What = part_of z (Read b n) i in
     let up = cut_up z (from + block_count part) to (map (part_of z (Read b n)) is) h.3 in (
-      record { reads = tt; marked = within sectors (first_block part) (block_count part) (omega (arith, h.0)) },
+      record { reads = tt; some = h.1; marked = within sectors (first_block part) (block_count part) (omega (arith, h.0)) },
       cut_inside sectors z (from + block_count part) to b n is fits h.3,
     )
 
 parts_right : (z blocks b n : ℕ) → 1 ≤ z → 1 ≤ n → (past : Bool) → ends_past (8 * blocks) (Read b n) ≡ past → AllByRecursion (IsPart (8 * blocks) past) (parts_of z blocks (Read b n))
-parts_right z blocks b n some full true e = rw e (record { reads = tt; marked = e }, tt)
+parts_right z blocks b n some full true e = rw e (record { reads = tt; some = full; marked = e }, tt)
 parts_right z blocks b n some full false e =
     rw e (cut_inside (8 * blocks) z b (b + n) b n (range_with_len 0 (chunks_touched z (Read b n))) (inside (8 * blocks) b n e) (parts_cut z (Read b n) some tt full))
 
@@ -62,7 +64,7 @@ parts_right z blocks b n some full false e =
 made : (sectors : ℕ) (r : Request) (number k : ℕ) (past : Bool) (parts : List What) → AllByRecursion (IsPart sectors past) parts
     → AllByRecursion (IsRead sectors) (map (λ (p : ℕ × What). record { caller = r.caller; request = number; piece = p.0; what = p.1; range = past }) (enumerate_from k parts))
 made sectors r number k past [] h = tt
-made sectors r number k past (w ∷ parts) h = (record { reads = h.0.reads; marked = h.0.marked }, made sectors r number (k + 1) past parts h.1)
+made sectors r number k past (w ∷ parts) h = (record { reads = h.0.reads; some = h.0.some; marked = h.0.marked }, made sectors r number (k + 1) past parts h.1)
 
 request_right : (z blocks number : ℕ) (r : Request) → 1 ≤ z → ReadsSome r.what → AllByRecursion (IsRead (8 * blocks)) (pieces_of_request z blocks (number, r))
 request_right z blocks number r some reads = by_kind r.what refl reads

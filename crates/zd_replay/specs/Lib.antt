@@ -4,3 +4,4 @@ pub mod Opening
 pub mod Script
 pub mod Run
 pub mod Number
+pub mod Replay

@@ -2,6 +2,7 @@
 #![tactic(auto)]
 
 mod number;
+mod replay;
 mod report;
 mod run;
 mod script;

@@ -1,15 +1,20 @@
 //! The report of a run over a volume that nobody wrote.
 
-ghost use Rattle.std.specs.Prelude.{◌≡◌, ◌+◌, ◌*◌, ◌<◌, ◌++◌, ◌∷◌, [], string_bytes, OnOk, IfOk, length, replicate};
+ghost use Rattle.std.specs.Prelude.{◌≡◌, ◌⊎◌, ◌+◌, ◌*◌, ◌<◌, ◌≤◌, ◌++◌, ◌∷◌, [], string_bytes, OnOk, IfOk, IsOk, length, replicate, true, false};
 ghost use Rattle.std.specs.List.{AllByRecursion, flat_map};
 ghost use Rattle.zd_model.specs.Entries.{answer_of, entry_of};
-ghost use Rattle.zd_model.specs.Report.{entry_text, reply_text};
+ghost use Rattle.zd_model.specs.Report.{entry_text, reply_text, outcome_text, status_of, output};
 ghost use Rattle.zd_model.specs.Text.{numeral};
+ghost use Rattle.zd_base.specs.Faults.{HasCause, Rose};
+ghost use Rattle.zd_disk.specs.Told.{WhereTold};
 ghost use Rattle.zd_replay.specs.Run.{AnswersZeros};
+ghost use Rattle.zd_replay.specs.Replay.{Takes, Tells, HasStatus, IsTaken, no_memory};
 
 use std::alloc::{AllocError, Global};
-use zd_base::SECTOR;
-use zd_plain::{Entry, Reply, What, block_count, first_block};
+use zd_base::{Failed, SECTOR, Status, Why};
+use zd_model::{NoVolume, Outcome};
+use zd_plain::{Ending, Entry, History, Reply, What, block_count, first_block};
+use zd_ports::Sink;
 
 /// Appends a number, without leading zeros.
 fn add_number(text: &mut String, n: u64) -> Result<(), AllocError>
@@ -59,4 +64,117 @@ fn add_line(text: &mut String, entry: &Entry) -> Result<(), AllocError>
     add_number(text, entry.at)?;
     text.push_str("\n")?;
     Ok(())
+}
+
+/// The last line of an output.
+fn outcome_line(outcome: Outcome) -> &'static str
+    ensures { result.now ≡ outcome_text outcome }
+{
+    match outcome {
+        Outcome::Ended(Ending::Ok) => "end 0 ok\n",
+        Outcome::Usage => "end 1 usage\n",
+        Outcome::NoVolume(NoVolume::NoSuperBlock) => "end 3 volume no-super-block\n",
+        Outcome::NoVolume(NoVolume::Layout) => "end 3 volume layout\n",
+        Outcome::Ended(Ending::Stopped(Why::Device)) => "end 4 device\n",
+        Outcome::Source => "end 5 source\n",
+        Outcome::Ended(Ending::Stopped(Why::Memory)) => "end 7 memory\n",
+        Outcome::Ended(Ending::Stopped(Why::Generation)) => "end 8 generation\n",
+        Outcome::NotBuilt => "end 11 not-built\n",
+    }
+}
+
+/// The exit status of an outcome.
+fn status_of(outcome: Outcome) -> Status
+    ensures { result.0 ≡ status_of outcome }
+{
+    Status(match outcome {
+        Outcome::Ended(Ending::Ok) => 0,
+        Outcome::Usage => 1,
+        Outcome::NoVolume(_) => 3,
+        Outcome::Ended(Ending::Stopped(Why::Device)) => 4,
+        Outcome::Source => 5,
+        Outcome::Ended(Ending::Stopped(Why::Memory)) => 7,
+        Outcome::Ended(Ending::Stopped(Why::Generation)) => 8,
+        Outcome::NotBuilt => 11,
+    })
+}
+
+/// All that a run prints: the lines of its entries, and that of its outcome.
+fn text_of(alloc: Global, history: &History, outcome: Outcome) -> Result<String, AllocError>
+    requires zeros { AllByRecursion (λ e. AnswersZeros e.what e.reply) history.now.items }
+    ensures { IfOk result (λ text. string_bytes text ≡ output history.now.items outcome) }
+{
+    let mut text = String::new(alloc);
+    for i in 0..history.len() {
+        add_line(&mut text, history.get(i))?;
+    }
+    text.push_str(outcome_line(outcome))?;
+    Ok(text)
+}
+
+/// Hands out all bytes, in whatever pieces they are taken.
+fn write_all<K: Sink>(out: &mut K, bytes: &[u8]) -> Result<(), Failed>
+    ensures taken { WhereTold (K.held out.old) (λ before.
+        Takes before (K.held out.new) bytes.now (IsOk result)) }
+    ensures cause { HasCause (K.faults out.old) (K.faults out.new) result }
+{
+    let mut at = 0;
+    while at < bytes.len() {
+        let Ok(taken) = out.write(&bytes[at..]) else {
+            return Err(Failed);
+        };
+        at += taken;
+    }
+    Ok(())
+}
+
+/// The status of an outcome whose output was handed out or not: 6 where that failed and nothing else
+/// was wrong.
+fn status_after(outcome: Outcome, told: bool) -> Status
+    ensures answers { HasStatus outcome result.0 }
+    ensures done { result.0 ≡ 0 → told ≡ true }
+    ensures sink { result.0 ≡ 6 → told ≡ false }
+{
+    match outcome {
+        Outcome::Ended(Ending::Ok) if !told => Status(6),
+        _ => status_of(outcome),
+    }
+}
+
+/// Hands out an output, and answers the status.
+fn tell<K: Sink>(out: &mut K, text: &str, outcome: Outcome) -> Status
+    ensures answers { HasStatus outcome result.0 }
+    ensures taken { WhereTold (K.held out.old) (λ before. Takes before (K.held out.new) text.now
+        (IsTaken result.0 (K.faults out.old) (K.faults out.new))) }
+    ensures sink { result.0 ≡ 6 → Rose (K.faults out.old) (K.faults out.new) }
+    ensures later { K.faults out.old ≤ K.faults out.new }
+{
+    let told = write_all(out, text.as_bytes()).is_ok();
+    status_after(outcome, told)
+}
+
+/// Tells an outcome before which nothing was entered.
+pub fn tell_alone<K: Sink>(out: &mut K, outcome: Outcome) -> Status
+    ensures taken { WhereTold (K.held out.old) (λ before. Takes before (K.held out.new)
+        (output [] outcome) (IsTaken result.0 (K.faults out.old) (K.faults out.new))) }
+    ensures answers { HasStatus outcome result.0 }
+    ensures sink { result.0 ≡ 6 → Rose (K.faults out.old) (K.faults out.new) }
+    ensures later { K.faults out.old ≤ K.faults out.new }
+{
+    tell(out, outcome_line(outcome), outcome)
+}
+
+/// Tells a history and how its run ended. Where no memory is found for the text, that alone is told.
+pub fn tell_all<K: Sink>(alloc: Global, out: &mut K, history: &History, outcome: Outcome) -> Status
+    requires zeros { AllByRecursion (λ e. AnswersZeros e.what e.reply) history.now.items }
+    ensures told { WhereTold (K.held out.old) (λ before. Tells history.now.items outcome result.0 before
+        (K.held out.new) (IsTaken result.0 (K.faults out.old) (K.faults out.new))) }
+    ensures answers { HasStatus outcome result.0 ⊎ HasStatus no_memory result.0 }
+    ensures sink { result.0 ≡ 6 → Rose (K.faults out.old) (K.faults out.new) }
+    ensures later { K.faults out.old ≤ K.faults out.new }
+{
+    match text_of(alloc, history, outcome) {
+        Ok(text) => tell(out, &text, outcome),
+        Err(_) => tell_alone(out, Outcome::Ended(Ending::Stopped(Why::Memory))),
+    }
 }

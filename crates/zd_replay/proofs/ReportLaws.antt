@@ -1,0 +1,158 @@
+-- How the report of a run comes together.
+use Rattle.std.proofs.Common.{◌≡◌, ◌⊎◌, ℕ, ◌+◌, ◌*◌, ◌/◌, ◌<◌, ◌≤◌, ◌^◌, ◌-◌, List, [], ◌∷◌, ◌++◌, length, map, take, Option, Some, refl, sym, ap, ◌∙◌, subst, inl, inr, arith}
+use Rattle.std.specs.List.{AllByRecursion, flat_map}
+use Rattle.zd_base.specs.Geometry.{Shape}
+use Rattle.zd_base.specs.declared.numbers.Why.{Why}
+use Rattle.zd_base.specs.declared.numbers.Why.TheVariants as whys
+use Rattle.zd_model.specs.Image.{Image}
+use Rattle.zd_model.specs.History.{HistoryEntry, mark_of_piece, marks_of_caller}
+use Rattle.zd_model.specs.Pieces.{pieces_of}
+use Rattle.zd_model.specs.Report.{output, outcome_text, status_of}
+use Rattle.zd_model.specs.declared.requests.Request.{Request}
+use Rattle.zd_model.specs.declared.requests.Ending.{Ending}
+use Rattle.zd_model.specs.declared.requests.Ending.TheVariants as endings
+use Rattle.zd_model.specs.declared.texts.Outcome.{Outcome}
+use Rattle.zd_model.specs.declared.texts.Outcome.TheVariants as outcomes
+use Rattle.zd_replay.specs.Opening.{Explains, Opens}
+use Rattle.zd_replay.specs.Reads.{IsScriptOfReads, IsNoScriptOfReads}
+use Rattle.zd_replay.specs.declared.script.ScriptFault.{ScriptFault}
+use Rattle.zd_replay.specs.declared.script.ScriptFault.TheVariants as scripts
+use Rattle.zd_replay.specs.declared.tables.OpenFault.{OpenFault}
+use Rattle.zd_replay.specs.declared.tables.OpenFault.TheVariants as opens
+use Rattle.zd_replay.specs.Replay.{Takes, Tells, HasStatus, IsHistory, IsCommand, IsRunnable, Comes, Ends, open_outcome, script_outcome, AreCounted, Reports, fault_count, no_memory}
+
+-- the text of an outcome alone
+alone_text : (outcome : Outcome) → output [] outcome ≡ outcome_text outcome
+unfolding output
+alone_text outcome = refl
+
+pub alone : (outcome : Outcome) (text : List ℕ) (before : List ℕ) (after : Option (List ℕ)) (whole : Type 0)
+    → text ≡ outcome_text outcome → Takes before after text whole → Takes before after (output [] outcome) whole
+alone outcome text before after whole is taken = subst (λ (bytes : List ℕ). Takes before after bytes whole) (is ∙ sym (alone_text outcome)) taken
+
+pub for_want_of_memory : (history : List HistoryEntry) (outcome : Outcome) (status : ℕ) (before : List ℕ) (after : Option (List ℕ)) (whole : Type 0)
+    → HasStatus no_memory status → Takes before after (output [] no_memory) whole → Tells history outcome status before after whole
+for_want_of_memory history outcome status before after whole answers taken = record {
+  entries = [];
+  ending = no_memory;
+  which = inr (refl, refl);
+  answers = answers;
+  taken = taken;
+}
+
+-- a run before which nothing was entered
+pub nothing : (image : Image) (plan : List Request) (whole : Type 0) → (whole → ⊥) → IsHistory image plan [] whole
+nothing image plan whole none = record {
+  legal = record { answers = tt; in_time = tt };
+  ordered = λ caller. (marks_of_caller caller (map mark_of_piece (pieces_of image.geometry.zone_blocks (length _ / 8) plan)), refl);
+  all = λ w. absurd (none w);
+}
+
+-- status 0 is that of a run in which all was done
+done : (outcome : Outcome) → status_of outcome ≡ 0 → outcome ≡ outcomes.Ended endings.Ok
+done (outcomes.Ended endings.Ok) e = refl
+done (outcomes.Ended (endings.Stopped whys.Device)) e = absurd (omega arith)
+done (outcomes.Ended (endings.Stopped whys.Memory)) e = absurd (omega arith)
+done (outcomes.Ended (endings.Stopped whys.Generation)) e = absurd (omega arith)
+done outcomes.Usage e = absurd (omega arith)
+done (outcomes.NoVolume kind) e = absurd (omega arith)
+done outcomes.Source e = absurd (omega arith)
+done outcomes.NotBuilt e = absurd (omega arith)
+
+pub done_where : (outcome : Outcome) (status : ℕ) → HasStatus outcome status → status ≡ 0 → outcome ≡ outcomes.Ended endings.Ok
+done_where outcome status (inl same) zero_is = done outcome (sym same ∙ zero_is)
+done_where outcome status (inr failed) zero_is = failed.1
+
+not_memory : no_memory ≡ outcomes.Ended endings.Ok → ⊥
+not_memory e = let f = ap status_of e in omega arith
+
+-- what was told of a run is its report
+pub reports : (words : List (List ℕ)) (bytes : List ℕ) (image : Image) (plan : List Request) (history : List HistoryEntry) (outcome : Outcome) (status faults now : ℕ) (before : List ℕ) (after : Option (List ℕ)) (whole : Type 0)
+    → IsCommand words → IsScriptOfReads bytes plan → Ends bytes image outcome
+    → IsHistory image plan history (outcome ≡ outcomes.Ended endings.Ok) → fault_count history ≡ 0 → faults ≤ now
+    → Tells history outcome status before after whole
+    → Reports words bytes image status faults now before after whole
+reports words bytes image plan history outcome status faults now before after whole right script ends entries none later t =
+    record {
+      plan = plan;
+      history = t.entries;
+      outcome = t.ending;
+      planned = inl script;
+      cause = elim t.which [
+        | inl same ↦ inr (right, subst (Ends bytes image) (sym same.1) ends)
+        | inr same ↦ inr (right, subst (Ends bytes image) (sym same.1) tt)
+      ];
+      answers = t.answers;
+      entries = elim t.which [
+        | inl same ↦ told_history same.0 same.1
+        | inr same ↦ subst (λ (h : List HistoryEntry). IsHistory image plan h (status ≡ 0)) (sym same.0) (nothing image plan (status ≡ 0) (λ zero_is. not_memory (sym same.1 ∙ done_where t.ending status t.answers zero_is)))
+      ];
+      counted = record {
+        later = later;
+        rise = λ small. elim t.which [
+          | inl same ↦ (let count : fault_count t.entries ≡ 0 = ap fault_count same.0 ∙ none in omega arith)
+          | inr same ↦ (let count : fault_count t.entries ≡ 0 = ap fault_count same.0 in omega arith)
+        ];
+      };
+      told = t.taken;
+    }
+  where
+    told_history : t.entries ≡ history → t.ending ≡ outcome → IsHistory image plan t.entries (status ≡ 0)
+    told_history same ending =
+        let h = subst (λ (h : List HistoryEntry). IsHistory image plan h (outcome ≡ outcomes.Ended endings.Ok)) (sym same) entries in
+        record { legal = h.legal; ordered = h.ordered; all = λ zero_is. h.all (sym ending ∙ done_where t.ending status t.answers zero_is) }
+
+-- the report of a run that ended before anything was entered
+pub reports_alone : (words : List (List ℕ)) (bytes : List ℕ) (image : Image) (outcome : Outcome) (status faults now : ℕ) (before : List ℕ) (after : Option (List ℕ)) (whole : Type 0)
+    → Comes words bytes image outcome → (outcome ≡ outcomes.Ended endings.Ok → ⊥) → faults ≤ now
+    → HasStatus outcome status → Takes before after (output [] outcome) whole
+    → Reports words bytes image status faults now before after whole
+reports_alone words bytes image outcome status faults now before after whole cause undone later answers taken = record {
+  plan = [];
+  history = [];
+  outcome = outcome;
+  planned = inr refl;
+  cause = cause;
+  answers = answers;
+  entries = nothing image [] (status ≡ 0) (λ zero_is. undone (done_where outcome status answers zero_is));
+  counted = record { later = later; rise = λ small. omega arith };
+  told = taken;
+}
+
+-- a disk that can't be opened ends the run so
+pub ends_unopened : (fault : OpenFault) (bytes : List ℕ) (image : Image) → IsRunnable bytes → Explains fault image → Ends bytes image (open_outcome fault)
+ends_unopened opens.Device bytes image script why = script
+ends_unopened (opens.NoVolume kind) bytes image script why = (script, why)
+ends_unopened opens.NotBuilt bytes image script why = inr (script, why)
+ends_unopened opens.Memory bytes image script why = tt
+
+pub unopened : (fault : OpenFault) → open_outcome fault ≡ outcomes.Ended endings.Ok → ⊥
+unopened opens.Device e = let f = ap status_of e in omega arith
+unopened (opens.NoVolume kind) e = let f = ap status_of e in omega arith
+unopened opens.NotBuilt e = let f = ap status_of e in omega arith
+unopened opens.Memory e = let f = ap status_of e in omega arith
+
+-- a script that can't be run ends the run so
+pub ends_unread : (fault : ScriptFault) (bytes : List ℕ) (image : Image) → (fault ≡ scripts.NotReads → IsNoScriptOfReads bytes) → Ends bytes image (script_outcome fault)
+ends_unread scripts.Source bytes image why = tt
+ends_unread scripts.NotReads bytes image why = inl (why refl)
+ends_unread scripts.Memory bytes image why = tt
+
+pub unread : (fault : ScriptFault) → script_outcome fault ≡ outcomes.Ended endings.Ok → ⊥
+unread scripts.Source e = let f = ap status_of e in omega arith
+unread scripts.NotReads e = let f = ap status_of e in omega arith
+unread scripts.Memory e = let f = ap status_of e in omega arith
+
+-- a session ends so
+pub ends_run : (ending : Ending) (bytes : List ℕ) (image : Image) → (ending ≡ endings.Ok) ⊎ (ending ≡ endings.Stopped whys.Memory) → IsRunnable bytes → Opens image → Ends bytes image (outcomes.Ended ending)
+ends_run ending bytes image (inl ok) script opened = subst (λ (e : Ending). Ends bytes image (outcomes.Ended e)) (sym ok) (script, opened)
+ends_run ending bytes image (inr stopped) script opened = subst (λ (e : Ending). Ends bytes image (outcomes.Ended e)) (sym stopped) tt
+
+ended : (e f : Ending) → outcomes.Ended e ≡ outcomes.Ended f → e ≡ f
+ended e f h = cc
+
+pub history_of : (image : Image) (plan : List Request) (history : List HistoryEntry) (ending : Ending) → IsHistory image plan history (ending ≡ endings.Ok) → IsHistory image plan history (outcomes.Ended ending ≡ outcomes.Ended endings.Ok)
+history_of image plan history ending h = record { legal = h.legal; ordered = h.ordered; all = λ e. h.all (ended ending endings.Ok e) }
+
+pub no_usage : outcomes.Usage ≡ outcomes.Ended endings.Ok → ⊥
+no_usage e = let f = ap status_of e in omega arith

@@ -1,0 +1,22 @@
+use Rattle.std.proofs.Common.{◌≡◌, ◌∙◌, sym, ap, subst, inl, inr, refl, arith, map, List, ℕ}
+use Rattle.std.specs.Prelude.{string_bytes}
+use Rattle.std.proofs.lemmas.Bool.{false≢true}
+use Rattle.zd_model.specs.declared.texts.Outcome.TheVariants as outcomes
+use Rattle.zd_model.specs.Report.{status_of}
+use Rattle.zd_replay.specs.Replay.{Ends, IsCommand}
+use Rattle.zd_replay.proofs.ReportLaws.{reports_alone, ends_unread, unread, no_usage}
+use Rattle.zd_replay.proofs.replay.replay_alone.Goals as goal
+
+pub returns-then-not-is_command-clause-report : goal.returns-then-not-is_command-clause-report
+returns-then-not-is_command-clause-report g c image bytes before z left held =
+    reports_alone (map string_bytes c.args.words.now) bytes image outcomes.Usage c.tell_alone.result.0 _ _ before (g.K.Sink.held c.tell_alone.new.out) _
+    (inl ((λ h. false≢true (sym c.if-not-is_command.true ∙ c.is_command.ensures ∙ h)), refl)) no_usage (omega arith) c.tell_alone.ensures.answers (c.tell_alone.ensures.taken before held)
+
+pub returns-in-Err-clause-report : goal.returns-in-Err-clause-report
+returns-in-Err-clause-report g c image bytes before z left held =
+    let is = c.script_outcome.ensures in
+    let right : IsCommand (map string_bytes c.args.words.now) = sym c.is_command.ensures ∙ c.if-not-is_command.false in
+    let fault = c.in-Err.fault in
+    let ends = subst (Ends bytes image) (sym is) (ends_unread fault bytes image (λ e. c.read_plan.ensures.not_reads (c.in-Err.is ∙ rw e refl) bytes left)) in
+    reports_alone (map string_bytes c.args.words.now) bytes image c.script_outcome.result c.tell_alone-in-Err.result.0 _ _ before (g.K.Sink.held c.tell_alone-in-Err.new.out) _
+    (inr (right, ends)) (λ e. unread fault (sym is ∙ e)) (omega arith) c.tell_alone-in-Err.ensures.answers (c.tell_alone-in-Err.ensures.taken before held)

@@ -1,0 +1,13 @@
+use Rattle.std.proofs.Common.{ℕ, List, subst}
+use Rattle.std.specs.Prelude.{IsOk}
+use Rattle.zd_replay.specs.Replay.{Takes}
+use Rattle.zd_replay.proofs.SinkLaws.{taken_where, told_where}
+use Rattle.zd_replay.proofs.report.tell.Goals as goal
+
+pub returns-clause-taken : goal.returns-clause-taken
+returns-clause-taken g c before held =
+    let after = g.K.Sink.held c.write_all.new.out in
+    let wrote = c.write_all.result in
+    taken_where before after c.args.text.now (IsOk wrote) _
+    (told_where wrote c.is_ok-told.result c.status_after.result.0 _ _ c.is_ok-told.ensures.value c.status_after.ensures.done c.write_all.ensures.cause.failed)
+    (subst (λ (bytes : List ℕ). Takes before after bytes (IsOk wrote)) c.as_bytes.ensures.value (c.write_all.ensures.taken before held))

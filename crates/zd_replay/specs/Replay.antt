@@ -1,0 +1,144 @@
+-- What a run is promised to report.
+use Rattle.std.specs.Prelude.{◌≡◌, ◌⊎◌, ℕ, ◌+◌, ◌-◌, ◌*◌, ◌/◌, ◌^◌, ◌<◌, ◌≤◌, Bool, true, false, ◌==◌, IsTrue, Option, Some, List, [], ◌∷◌, ◌++◌, length, map, take, count_by}
+use Rattle.std.specs.List.{list_any}
+use Rattle.zd_base.specs.Faults.{Rose}
+use Rattle.zd_base.specs.Geometry.{Shape}
+use Rattle.zd_base.specs.declared.numbers.Why.TheVariants as whys
+use Rattle.zd_model.specs.Image.{Image}
+use Rattle.zd_model.specs.Plain.{Answer}
+use Rattle.zd_model.specs.Plain.Answer.{Got, Done, Range, Fault}
+use Rattle.zd_model.specs.Pieces.{pieces_of}
+use Rattle.zd_model.specs.History.{HistoryEntry, IsLegal, IsOrdered, mark_of_entry, mark_of_piece, marks_of_caller}
+use Rattle.zd_model.specs.Report.{output, status_of}
+use Rattle.zd_model.specs.Volume.{good_super}
+use Rattle.zd_model.specs.declared.requests.Request.{Request}
+use Rattle.zd_model.specs.declared.requests.Ending.TheVariants as endings
+use Rattle.zd_model.specs.declared.texts.Outcome.{Outcome}
+use Rattle.zd_model.specs.declared.texts.Outcome.TheVariants as outcomes
+use Rattle.zd_replay.specs.Words.{is_command}
+use Rattle.zd_replay.specs.declared.script.ScriptFault.{ScriptFault}
+use Rattle.zd_replay.specs.declared.script.ScriptFault.TheVariants as scripts
+use Rattle.zd_replay.specs.declared.tables.OpenFault.{OpenFault}
+use Rattle.zd_replay.specs.declared.tables.OpenFault.TheVariants as opens
+use Rattle.zd_replay.specs.Reads.{IsScriptOfReads, IsNoScriptOfReads}
+use Rattle.zd_replay.specs.Opening.{Opens, IsWritten, RefusesHead, base_of}
+
+-- the words are a command
+abbrev pub IsCommand : List (List ℕ) → Type 0
+IsCommand words = IsTrue (is_command words)
+
+-- the bytes are a script that can be run
+abbrev pub IsRunnable : List ℕ → Type 0
+IsRunnable bytes = (plan : List Request) × IsScriptOfReads bytes plan
+
+-- when a run with right words ends so, the first cause first. What the counts of faults say of the
+-- causes `source`, `device` and of want of memory stands in clauses of their own.
+abbrev pub Ends : List ℕ → Image → Outcome → Type 0
+Ends bytes image outcomes.Usage = ⊥
+Ends bytes image outcomes.Source = Unit {0}
+Ends bytes image outcomes.NotBuilt = IsNoScriptOfReads bytes ⊎ (IsRunnable bytes × IsWritten image)
+Ends bytes image (outcomes.NoVolume kind) = IsRunnable bytes × RefusesHead kind image.geometry (good_super image 0)
+Ends bytes image (outcomes.Ended endings.Ok) = IsRunnable bytes × Opens image
+Ends bytes image (outcomes.Ended (endings.Stopped whys.Device)) = IsRunnable bytes
+Ends bytes image (outcomes.Ended (endings.Stopped whys.Memory)) = Unit {0}
+Ends bytes image (outcomes.Ended (endings.Stopped whys.Generation)) = ⊥
+
+-- the words decide first
+abbrev pub Comes : List (List ℕ) → List ℕ → Image → Outcome → Type 0
+Comes words bytes image outcome = ((IsCommand words → ⊥) × (outcome ≡ outcomes.Usage)) ⊎ (IsCommand words × Ends bytes image outcome)
+
+-- the status is that of the outcome; only where all was done may it be 6 instead
+abbrev pub HasStatus : Outcome → ℕ → Type 0
+HasStatus outcome status = (status ≡ status_of outcome) ⊎ ((status ≡ 6) × (outcome ≡ outcomes.Ended endings.Ok))
+
+-- the statuses that a run can end with so far
+abbrev pub IsStatus : ℕ → Type 0
+IsStatus status = IsTrue (list_any (λ s. s == status) (0 ∷ 1 ∷ 3 ∷ 4 ∷ 5 ∷ 6 ∷ 7 ∷ 11 ∷ []))
+
+-- those that come once the script is read
+abbrev pub IsSessionStatus : ℕ → Type 0
+IsSessionStatus status = IsTrue (list_any (λ s. s == status) (0 ∷ 3 ∷ 4 ∷ 6 ∷ 7 ∷ 11 ∷ []))
+
+-- the sink took these bytes behind what it held, whole or a front of them
+pub record Takes (before : List ℕ) (after : Option (List ℕ)) (bytes : List ℕ) (whole : Type 0) : Type 0 where
+  pub front : List ℕ
+  pub rest : List ℕ
+  pub taken : after ≡ Some (before ++ front)
+  pub is_front : front ++ rest ≡ bytes
+  pub all : whole → rest ≡ []
+
+-- when the sink has the whole output: where all was done, and where it didn't fail
+abbrev pub IsTaken : ℕ → ℕ → ℕ → Type 0
+IsTaken status before now = (status ≡ 0) ⊎ (Rose before now → ⊥)
+
+-- each caller's entries are all of its pieces
+abbrev pub IsWhole : ℕ → ℕ → List Request → List HistoryEntry → Type 0
+IsWhole z blocks plan history = (caller : ℕ) →
+    marks_of_caller caller (map mark_of_entry history) ≡ marks_of_caller caller (map mark_of_piece (pieces_of z blocks plan))
+
+abbrev pub is_fault : Answer → Bool
+is_fault (Got bytes) = false
+is_fault Done = false
+is_fault Range = false
+is_fault Fault = true
+
+-- how many replies are `fault`
+abbrev pub fault_count : List HistoryEntry → ℕ
+fault_count history = count_by (λ e. is_fault e.reply) history
+
+-- a history over the base of an image, in the order of a plan, with all its pieces where that is said
+pub record IsHistory (image : Image) (plan : List Request) (history : List HistoryEntry) (whole : Type 0) : Type 0 where
+  pub legal : IsLegal (base_of image) history
+  pub ordered : IsOrdered image.geometry.zone_blocks (length (base_of image) / 8) plan history
+  pub all : whole → IsWhole image.geometry.zone_blocks (length (base_of image) / 8) plan history
+
+-- one fault of the disk doesn't license two replies
+pub record AreCounted (history : List HistoryEntry) (before after : ℕ) : Type 0 where
+  pub later : before ≤ after
+  pub rise : after < 2 ^ 64 - 1 → fault_count history + before ≤ after
+
+-- there is a history and an outcome, and what the sink took is their text
+pub record Reports (words : List (List ℕ)) (bytes : List ℕ) (image : Image) (status faults now : ℕ) (before : List ℕ) (after : Option (List ℕ)) (whole : Type 0) : Type 0 where
+  pub plan : List Request
+  pub history : List HistoryEntry
+  pub outcome : Outcome
+  -- where the bytes are no script that can be run, nothing is
+  pub planned : IsScriptOfReads bytes plan ⊎ (history ≡ [])
+  pub cause : Comes words bytes image outcome
+  pub answers : HasStatus outcome status
+  pub entries : IsHistory image plan history (status ≡ 0)
+  pub counted : AreCounted history faults now
+  pub told : Takes before after (output history outcome) whole
+
+-- where the disk tells its zones, the source its bytes and the sink what it took
+abbrev pub WhereAllTold : Option Image → Option (List ℕ) → Option (List ℕ) → (Image → List ℕ → List ℕ → Type 0) → Type 0
+WhereAllTold zones left held P = (image : Image) (bytes before : List ℕ) → zones ≡ Some image → left ≡ Some bytes → held ≡ Some before → P image bytes before
+
+-- a plan that is written in some script that can be run
+abbrev pub IsReadPlan : List Request → Type 0
+IsReadPlan plan = (bytes : List ℕ) × IsScriptOfReads bytes plan
+
+-- want of memory
+abbrev pub no_memory : Outcome
+no_memory = outcomes.Ended (endings.Stopped whys.Memory)
+
+-- what was told: this history and outcome, or none where no memory was found for their text
+pub record Tells (history : List HistoryEntry) (outcome : Outcome) (status : ℕ) (before : List ℕ) (after : Option (List ℕ)) (whole : Type 0) : Type 0 where
+  pub entries : List HistoryEntry
+  pub ending : Outcome
+  pub which : ((entries ≡ history) × (ending ≡ outcome)) ⊎ ((entries ≡ []) × (ending ≡ no_memory))
+  pub answers : HasStatus ending status
+  pub taken : Takes before after (output entries ending) whole
+
+-- how a run ends whose script can't be run
+abbrev pub script_outcome : ScriptFault → Outcome
+script_outcome scripts.Source = outcomes.Source
+script_outcome scripts.NotReads = outcomes.NotBuilt
+script_outcome scripts.Memory = no_memory
+
+-- how a run ends whose disk can't be opened
+abbrev pub open_outcome : OpenFault → Outcome
+open_outcome opens.Device = outcomes.Ended (endings.Stopped whys.Device)
+open_outcome (opens.NoVolume kind) = outcomes.NoVolume kind
+open_outcome opens.NotBuilt = outcomes.NotBuilt
+open_outcome opens.Memory = no_memory

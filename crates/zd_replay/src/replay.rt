@@ -1,0 +1,143 @@
+//! A run by one caller, from words and bytes to the report.
+
+ghost use Rattle.std.specs.Prelude.{◌≡◌, ◌⊎◌, ◌↔◌, ◌≤◌, ◌==◌, ℕ, List, [], ◌∷◌, map, string_bytes, IfOk, Err, IsTrue};
+ghost use Rattle.std.specs.List.{AllByRecursion, list_any};
+ghost use Rattle.zd_base.specs.Faults.{Rose};
+ghost use Rattle.zd_base.specs.Layout.{Fits};
+ghost use Rattle.zd_disk.specs.Told.{WhereTold};
+ghost use Rattle.zd_model.specs.Image.{Image};
+ghost use Rattle.zd_replay.specs.Opening.{IsOpened, Opens};
+ghost use Rattle.zd_replay.specs.Reads.{IsNoScriptOfReads, IsScriptOfReads};
+ghost use Rattle.zd_replay.specs.Replay.{IsCommand, IsRunnable, IsReadPlan, script_outcome, open_outcome, IsHistory, IsTaken, IsStatus, IsSessionStatus, Reports, WhereAllTold, fault_count, no_memory};
+ghost use Rattle.zd_replay.specs.Run.{AnswersZeros};
+
+use crate::report::{tell_all, tell_alone};
+use crate::run::run;
+use crate::script::{ScriptFault, plan_of, read_all};
+use crate::tables::{OpenFault, Opened, open};
+use crate::words::is_command;
+use std::alloc::Global;
+use zd_base::{Status, Why};
+use zd_disk::ZonedDisk;
+use zd_model::Outcome;
+use zd_plain::{Ending, History, Plan, pieces};
+use zd_ports::{Sink, Source};
+
+/// Reads a script, and its plan.
+fn read_plan<S: Source>(alloc: Global, script: &mut S) -> Result<Plan, ScriptFault>
+    ensures plan { IfOk result IsReadPlan }
+    ensures ok { IfOk result (λ plan. WhereTold (S.left script.old) (λ bytes. IsScriptOfReads bytes plan)) }
+    ensures not_reads { result ≡ Err ScriptFault.NotReads →
+        WhereTold (S.left script.old) IsNoScriptOfReads }
+    ensures source { result ≡ Err ScriptFault.Source → Rose (S.faults script.old) (S.faults script.new) }
+    ensures later { S.faults script.old ≤ S.faults script.new }
+{
+    let bytes = read_all(alloc, script)?;
+    let requests = plan_of(alloc, &bytes)?;
+    Ok(Plan::from(requests))
+}
+
+/// How a run ends whose script can't be run.
+fn script_outcome(fault: ScriptFault) -> Outcome
+    ensures { result ≡ script_outcome fault }
+{
+    match fault {
+        ScriptFault::Source => Outcome::Source,
+        ScriptFault::NotReads => Outcome::NotBuilt,
+        ScriptFault::Memory => Outcome::Ended(Ending::Stopped(Why::Memory)),
+    }
+}
+
+/// How a run ends whose disk can't be opened.
+fn open_outcome(fault: OpenFault) -> Outcome
+    ensures { result ≡ open_outcome fault }
+{
+    match fault {
+        OpenFault::Device => Outcome::Ended(Ending::Stopped(Why::Device)),
+        OpenFault::NoVolume(kind) => Outcome::NoVolume(kind),
+        OpenFault::NotBuilt => Outcome::NotBuilt,
+        OpenFault::Memory => Outcome::Ended(Ending::Stopped(Why::Memory)),
+    }
+}
+
+/// Runs a plan over an opened disk.
+fn run_plan(alloc: Global, opened: &Opened, plan: &Plan) -> (History, Ending)
+    requires plan { IsReadPlan plan.now }
+    requires fits { Fits opened.now.geometry opened.now.head.layout }
+    ensures entries { (image : Image) → IsOpened opened.now.geometry opened.now.head image →
+        IsHistory image plan.now result.0.items (result.1 ≡ Ending.Ok) }
+    ensures zeros { AllByRecursion (λ e. AnswersZeros e.what e.reply) result.0.items }
+    ensures counted { fault_count result.0.items ≡ 0 }
+    ensures ending { (result.1 ≡ Ending.Ok) ⊎ (result.1 ≡ Ending.Stopped Why.Memory) }
+{
+    let zone_blocks = opened.geometry.zone_blocks();
+    let blocks = u64::from(opened.head.layout.chunks) * u64::from(zone_blocks);
+    let Ok(pieces) = pieces(alloc, plan, zone_blocks, blocks) else {
+        return (History::new(alloc), Ending::Stopped(Why::Memory));
+    };
+    run(alloc, &pieces)
+}
+
+/// Opens the disk, runs the plan and tells the report.
+fn session<D: ZonedDisk, K: Sink>(alloc: Global, disk: &mut D, plan: &Plan, out: &mut K) -> Status
+    requires plan { IsReadPlan plan.now }
+    ensures report { (words : List (List ℕ)) (bytes : List ℕ) →
+        IsCommand words → IsScriptOfReads bytes plan.now →
+        WhereTold (D.zones disk.old) (λ image. WhereTold (K.held out.old) (λ before.
+        Reports words bytes image result.0 (D.faults disk.old) (D.faults disk.new) before
+        (K.held out.new) (IsTaken result.0 (K.faults out.old) (K.faults out.new)))) }
+    ensures statuses { IsSessionStatus result.0 }
+    ensures device { result.0 ≡ 4 → Rose (D.faults disk.old) (D.faults disk.new) }
+    ensures sink { result.0 ≡ 6 → Rose (K.faults out.old) (K.faults out.new) }
+    ensures zones { D.zones disk.new ≡ D.zones disk.old }
+    ensures calls { D.calls disk.new ≡ D.calls disk.old }
+{
+    let opened = match open(alloc, disk) {
+        Ok(opened) => opened,
+        Err(fault) => return tell_alone(out, open_outcome(fault)),
+    };
+    let (history, ending) = run_plan(alloc, &opened, plan);
+    tell_all(alloc, out, &history, Outcome::Ended(ending))
+}
+
+/// Runs the script of one caller over a disk, and writes the report. It hands the disk back.
+///
+/// So far it answers reads by caller 0 of a volume that nobody wrote, by the first set of metadata.
+/// The status is 0 where all was done, 1 where the words are no command, 3 where the image is no
+/// volume, 4 where the disk failed in opening, 5 where the source failed, 6 where the sink failed and
+/// nothing else was wrong, 7 where no memory was found, and 11 where the run needs what isn't built.
+pub fn replay_alone<D: ZonedDisk, S: Source, K: Sink>(
+    alloc: Global,
+    words: &[String],
+    mut disk: D,
+    script: &mut S,
+    out: &mut K,
+) -> (Status, D)
+    ensures usage { (result.0.0 ≡ 1) ↔ (IsCommand (map string_bytes words.now) → ⊥) }
+    ensures statuses { IsStatus result.0.0 }
+
+    // What is told of a run: a legal history in the script's order, its outcome with its cause, their
+    // text in the sink.
+    ensures report { WhereAllTold (D.zones disk) (S.left script.old) (K.held out.old)
+        (λ image bytes before. Reports (map string_bytes words.now) bytes image result.0.0
+        (D.faults disk) (D.faults result.1) before (K.held out.new)
+        (IsTaken result.0.0 (K.faults out.old) (K.faults out.new))) }
+
+    ensures device { result.0.0 ≡ 4 → Rose (D.faults disk) (D.faults result.1) }
+    ensures source { result.0.0 ≡ 5 → Rose (S.faults script.old) (S.faults script.new) }
+    ensures sink { result.0.0 ≡ 6 → Rose (K.faults out.old) (K.faults out.new) }
+
+    // The disk reads as before, and got no writing call.
+    ensures zones { D.zones result.1 ≡ D.zones disk }
+    ensures calls { D.calls result.1 ≡ D.calls disk }
+{
+    if !is_command(words) {
+        return (tell_alone(out, Outcome::Usage), disk);
+    }
+    let plan = match read_plan(alloc, script) {
+        Ok(plan) => plan,
+        Err(fault) => return (tell_alone(out, script_outcome(fault)), disk),
+    };
+    let status = session(alloc, &mut disk, &plan, out);
+    (status, disk)
+}
