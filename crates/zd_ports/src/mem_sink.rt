@@ -1,6 +1,6 @@
 //! A sink in memory.
 
-ghost use Rattle.std.specs.Prelude.{◌≡◌, ◌+◌, ◌<◌, ◌≤◌, ◌++◌, ℕ, List, [], Some, length, take, Contains, IsOk, IsErr, IfOk, OnOk, OnErr, MatchResult};
+ghost use Rattle.std.specs.Prelude.{◌≡◌, ◌<◌, ◌≤◌, [], Some, length, Contains, IsOk, IsErr, IfOk, OnOk, OnErr};
 ghost use Rattle.zd_base.specs.Faults.{HasCause};
 ghost use Rattle.zd_ports.specs.MemSink.{CountsWrite, Took, TookNothing};
 

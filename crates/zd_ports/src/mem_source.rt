@@ -1,6 +1,6 @@
 //! A source in memory.
 
-ghost use Rattle.std.specs.Prelude.{◌≡◌, ◌<◌, ◌≤◌, ◌↔◌, ℕ, List, [], Some, length, take, min, Contains, IsErr, IfOk, OnOk, OnErr};
+ghost use Rattle.std.specs.Prelude.{◌≡◌, ◌<◌, ◌↔◌, Some, length, take, min, Contains, IsErr, IfOk, OnOk, OnErr};
 ghost use Rattle.zd_base.specs.Faults.{HasCause};
 ghost use Rattle.zd_ports.specs.MemSource.{CountsRead};
 ghost use Rattle.zd_ports.specs.Ports.{Gives};

@@ -1,6 +1,6 @@
 //! Readers and writers of std as ports.
 
-ghost use Rattle.std.specs.Prelude.{◌≡◌, ◌<◌, ◌≤◌, ◌++◌, ℕ, List, Some, length, take, IfOk, OnOk, OnErr, IfSome};
+ghost use Rattle.std.specs.Prelude.{◌≡◌, ◌<◌, ◌≤◌, ◌++◌, Some, length, take, IfOk, OnOk, OnErr, IfSome};
 ghost use Rattle.zd_base.specs.Faults.{HasCause};
 ghost use Rattle.zd_ports.specs.Adapter.{passed_on};
 ghost use Rattle.zd_ports.specs.Ports.{Gives};
