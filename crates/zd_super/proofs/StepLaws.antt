@@ -72,10 +72,11 @@ crc_bits_8 n =
     ∙ ap (λ k. bit_xor k (crc_bits 8 (n % 256))) (crc_bits-shifted 8 (n / 256))
 
 -- the upper part of the sum is that of the crc, since a byte has none
-pub crc_bits_8-xor : (c b : ℕ) → b < 256 → crc_bits 8 (bit_xor c b) ≡ bit_xor (c / 256) (crc_bits 8 (bit_xor c b % 256))
+pub crc_bits_8-xor : (c b : ℕ) → b < 256 →
+    crc_bits 8 (bit_xor c b) ≡ bit_xor (c / 256) (crc_bits 8 (bit_xor c b % 256))
 crc_bits_8-xor c b small =
     let none : b / 256 ≡ 0 = omega arith in
-    let upper : bit_xor c b / 256 ≡ c / 256 = xor_shr c b 8 ∙ ap (bit_xor (c / 256)) none ∙ xor_zero_r (c / 256) in
+    let upper = xor_shr c b 8 ∙ ap (bit_xor (c / 256)) none ∙ xor_zero_r (c / 256) in
     crc_bits_8 (bit_xor c b) ∙ ap (λ k. bit_xor k (crc_bits 8 (bit_xor c b % 256))) upper
 
 -- each entry of the table is what eight bits make of its place

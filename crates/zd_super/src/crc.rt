@@ -1,4 +1,5 @@
-//! The crc of super blocks.
+//! The crc of super blocks, a byte at a time: the low byte of the crc and the next byte decide
+//! together, by a table, what is added to the rest of the crc.
 
 ghost use Rattle.std.specs.Prelude.{◌≡◌, bit_xor};
 ghost use Rattle.zd_model.specs.Crc.{crc_bits, crc32_le};
@@ -25,7 +26,7 @@ fn step(crc: u32, byte: u8) -> u32
     (crc >> 8) ^ eight_bits(low)
 }
 
-/// What eight bits make of the number of a byte.
+/// What eight bits make of a crc whose upper bytes are zero.
 fn eight_bits(byte: u8) -> u32
     ensures { result ≡ crc_bits 8 byte }
 {

@@ -1,6 +1,6 @@
 //! What the crc makes of one byte.
 
-/// Entry `k` is what eight bits make of the number `k`.
+/// Entry `k` is what eight bits make of the crc `k`.
 pub const TABLE: [u32; 256] = [
     0x00000000, 0x77073096, 0xee0e612c, 0x990951ba, 0x076dc419, 0x706af48f, 0xe963a535, 0x9e6495a3,
     0x0edb8832, 0x79dcb8a4, 0xe0d5e91e, 0x97d2d988, 0x09b64c2b, 0x7eb17cbd, 0xe7b82d07, 0x90bf1d91,

@@ -6,4 +6,6 @@ use Rattle.zd_super.proofs.block.has_zero_tail.Goals as goal
 
 pub returns : goal.returns
 unfolding has_zero_tail
-returns c = c.are_zeros.ensures ∙ ap (λ (bytes : List ℕ). list_all (λ byte. nat_eq byte 0) bytes) (take_rest c.args.block.now 112)
+returns c =
+    let test = λ (bytes : List ℕ). list_all (λ byte. nat_eq byte 0) bytes in
+    c.are_zeros.ensures ∙ ap test (take_rest c.args.block.now 112)
