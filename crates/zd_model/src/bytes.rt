@@ -22,7 +22,10 @@ impl Model for Bytes {
 
     ghost Value = { ListWithRoom ℕ };
 
-    ghost view = { λ b. record { items = b.bytes.items; room = vec_capacity b.bytes - vec_len b.bytes } };
+    ghost view = { λ b. record {
+      items = b.bytes.items;
+      room = vec_capacity b.bytes - vec_len b.bytes;
+    } };
 }
 
 impl Bytes {
@@ -42,13 +45,11 @@ impl Bytes {
         ensures empty { IfOk result (λ b. b.items ≡ []) }
         ensures room { IfOk result (λ b. n ≤ b.room) }
     {
-        match Vec::with_capacity(alloc, n) {
-            Ok(bytes) => Ok(Bytes { bytes }),
-            Err(_) => Err(Memory),
-        }
+        let bytes = Vec::with_capacity(alloc, n).map_err(|_| Memory)?;
+        Ok(Bytes { bytes })
     }
 
-    /// Appends a byte. A refusal changes nothing.
+    /// Appends a byte, without memory where there is room. A refusal leaves the bytes as they were.
     pub fn push(&mut self, item: u8) -> Result<(), Memory>
         ensures ok { OnOk result (self.new.items ≡ self.old.items ++ item ∷ []) }
         ensures err { OnErr result (self.new.items ≡ self.old.items) }
@@ -87,7 +88,7 @@ impl Bytes {
         self.bytes.capacity() - self.bytes.len()
     }
 
-    /// Appends zeros, without memory.
+    /// Appends `n` zeros, without memory.
     pub fn add_zeros(&mut self, n: usize)
         requires { n ≤ self.old.room }
         ensures items { self.new.items ≡ self.old.items ++ replicate n 0 }

@@ -6,4 +6,10 @@ use Rattle.zd_model.specs.declared.requests.Piece.{Piece}
 
 -- piece i of request n, where chunks have z blocks
 abbrev pub piece_at : ℕ → ℕ → Request → ℕ → Piece
-piece_at z n r i = record { caller = r.caller; request = n; piece = i; what = part_of z r.what i; range = false }
+piece_at z n r i = record {
+  caller = r.caller;
+  request = n;
+  piece = i;
+  what = part_of z r.what i;
+  range = false;
+}

@@ -1,5 +1,5 @@
 -- Which lists of requests are plans that can be cut.
-use Rattle.std.specs.Prelude.{ℕ, ◌<◌, ◌≤◌, ◌^◌, List, length, All}
+use Rattle.std.specs.Prelude.{◌<◌, ◌≤◌, ◌^◌, List, length, All}
 use Rattle.zd_model.specs.declared.requests.Request.{Request}
 use Rattle.zd_model.specs.declared.requests.What.{What}
 use Rattle.zd_model.specs.declared.requests.What.TheVariants.{Read, Write, Discard, Flush}

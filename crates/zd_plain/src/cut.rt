@@ -42,7 +42,7 @@ fn part(what: What, zone_blocks: u32, i: u32) -> What
     at_blocks(what, from, (end - from) as u32)
 }
 
-/// Appends the pieces of a request that moves blocks of the device.
+/// Appends the pieces of a request that lies inside the device and is no flush.
 fn add_parts(
     pieces: &mut Vec<Piece>,
     request: Request,
@@ -53,7 +53,8 @@ fn add_parts(
     requires some { 1 ≤ block_count request.what }
     requires fits { first_block request.what + block_count request.what < 2 ^ 64 }
     ensures { OnOk result (pieces.new.items ≡ pieces.old.items
-        ++ map (piece_at zone_blocks number request) (range_with_len 0 (chunks_touched zone_blocks request.what))) }
+        ++ map (piece_at zone_blocks number request)
+        (range_with_len 0 (chunks_touched zone_blocks request.what))) }
 {
     for i in 0..chunks_touched(request.what, zone_blocks) {
         let piece = Piece {

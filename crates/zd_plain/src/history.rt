@@ -42,7 +42,8 @@ impl History {
         }
     }
 
-    /// Appends an entry, without memory where there is room. A refusal leaves the entries as they were.
+    /// Appends an entry, without memory where there is room. A refusal leaves the entries as they
+    /// were.
     pub fn push(&mut self, item: Entry) -> Result<(), Memory>
         ensures ok { OnOk result (self.new.items ≡ self.old.items ++ entry_of item ∷ []) }
         ensures err { OnErr result (self.new.items ≡ self.old.items) }

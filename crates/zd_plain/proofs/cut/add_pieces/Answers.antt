@@ -1,3 +1,4 @@
+-- What was appended is the request's pieces, since it lies inside the device.
 use Rattle.std.proofs.Common.{◌≡◌, List, ◌++◌, OnOk, subst}
 use Rattle.zd_model.specs.declared.requests.Piece.{Piece}
 use Rattle.zd_plain.proofs.PieceLaws.{pieces_within}

@@ -1,4 +1,5 @@
-use Rattle.std.proofs.Common.{◌≡◌, ◌+◌, List, ◌++◌, ap, ◌∙◌}
+-- The next request's pieces join those of the requests before it.
+use Rattle.std.proofs.Common.{◌+◌, List, ◌++◌, ap, ◌∙◌}
 use Rattle.zd_model.specs.Pieces.{pieces_of_request}
 use Rattle.zd_model.specs.declared.requests.Piece.{Piece}
 use Rattle.zd_plain.proofs.PieceLaws.{pieces_more}

@@ -1,6 +1,5 @@
 -- The pieces of the requests before request i are there.
 use Rattle.std.proofs.Common.{◌≡◌, take}
-use Rattle.std.specs.List.{flat_map, enumerate_from}
 use Rattle.zd_model.specs.Pieces.{pieces_of}
 use Rattle.zd_plain.proofs.cut.pieces.Given as goal
 

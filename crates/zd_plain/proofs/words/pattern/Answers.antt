@@ -1,3 +1,4 @@
+-- Word j joins the words before it, and 64 words are the sector.
 use Rattle.std.proofs.Common.{◌≡◌, ℕ, List, ◌*◌, ◌++◌, sym, ap, ap₂, ◌∙◌, arith}
 use Rattle.std.proofs.lemmas.List.{take_all}
 use Rattle.std.specs.Int.{w64, to_le_bytes}
