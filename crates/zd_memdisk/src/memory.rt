@@ -6,6 +6,7 @@ ghost use Rattle.zd_base.specs.Geometry.{zone_sectors};
 ghost use Rattle.zd_model.specs.Image.{run_of};
 ghost use Rattle.zd_disk.specs.Steps.{count_of, Wrote, WasReset};
 ghost use Rattle.zd_disk.specs.Told.{next_count, IsSequentialZone, IsInside};
+ghost use Rattle.zd_memdisk.specs.Fails.{CountsCalls};
 ghost use Rattle.zd_memdisk.specs.Stored.{IsBlank};
 ghost use Rattle.zd_memdisk.specs.Disks.{disk_geometry, disk_image, disk_calls, disk_faults, disk_fails, Names, HasCounted, front_half, disk_agrees, disk_shaped};
 
@@ -56,6 +57,7 @@ impl MemDisk {
     /// down, and any other call that fails does nothing.
     pub fn fail_at(&mut self, fails: Vec<Fail>)
         ensures fails { disk_fails self.new ≡ fails.items }
+        ensures nth { CountsCalls fails.items }
         ensures zones { disk_image self.new ≡ disk_image self.old }
         ensures calls { disk_calls self.new ≡ disk_calls self.old }
         ensures faults { disk_faults self.new ≡ disk_faults self.old }
