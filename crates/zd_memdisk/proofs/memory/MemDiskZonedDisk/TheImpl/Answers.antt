@@ -36,7 +36,7 @@ write-tells x c =
           c.ensures.err;
       told = ap (λ (g : Shape). Some g) c.ensures.told;
       calls = c.ensures.calls;
-      cause = c.ensures.cause;
+      cause = c.ensures.cause.cause;
     }
 
 pub reset-tells : goal.reset-tells
@@ -45,7 +45,7 @@ reset-tells x c = record {
   err = on_err_weaker c.result (not_reset c.args.zone (disk_image c.args.self.now) (disk_image c.new.self.now)) c.ensures.err;
   told = ap (λ (g : Shape). Some g) c.ensures.told;
   calls = c.ensures.calls;
-  cause = c.ensures.cause;
+  cause = c.ensures.cause.cause;
 }
 
 pub flush-tells : goal.flush-tells
@@ -53,5 +53,5 @@ flush-tells x c = record {
   zones = same (disk_image c.args.self.now) (disk_image c.new.self.now) c.ensures.zones;
   told = ap (λ (g : Shape). Some g) c.ensures.told;
   calls = c.ensures.calls;
-  cause = c.ensures.cause;
+  cause = c.ensures.cause.cause;
 }

@@ -10,7 +10,7 @@ read-requires-clause-below g c =
     let d = c.geometry.new.self in
     let shape = c.in_ok-geometry.geometry in
     IfSome-each (g.D.ZonedDisk.zones d) (λ (i : Image). c.args.start + count_of c.args.into.now ≤ i.held c.args.zone) (λ i e.
-      let same : shape ≡ i.geometry = Some-same shape i.geometry (sym c.in_ok-geometry.ensures.value ∙ g.met.D.ZonedDisk.agrees d i e) in
-      let here = (g.met.D.ZonedDisk.shaped d i e).conventional c.args.zone (subst (λ (s : Shape). c.args.zone < s.conv) same (omega (arith, c.conv.ensures.value))) in
-      let size = ap (λ (s : Shape). s.zone_blocks) same in
-      omega (arith, c.conv.ensures.shape.size.least))
+    let same : shape ≡ i.geometry = Some-same shape i.geometry (sym c.in_ok-geometry.ensures.value ∙ g.met.D.ZonedDisk.agrees d i e) in
+    let here = (g.met.D.ZonedDisk.shaped d i e).conventional c.args.zone (subst (λ (s : Shape). c.args.zone < s.conv) same (omega (arith, c.conv.ensures.value))) in
+    let size = ap (λ (s : Shape). s.zone_blocks) same in
+    omega (arith, c.conv.ensures.shape.size.least))
