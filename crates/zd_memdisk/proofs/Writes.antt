@@ -1,5 +1,5 @@
 -- A write to the store is a write to its image.
-use Rattle.std.proofs.Common.{◌≡◌, ◌≢◌, ℕ, zero, suc, replicate, ◌+◌, ◌*◌, ◌<◌, ◌≤◌, cond, ltb, List, [], ◌++◌, length, take, drop, get_or, Vec, inl, inr, refl, ap, sym, ◌∙◌, arith, lit<}
+use Rattle.std.proofs.Common.{◌≡◌, ℕ, zero, suc, replicate, ◌+◌, ◌*◌, ◌<◌, ◌≤◌, cond, ltb, List, [], ◌++◌, length, take, drop, get_or, inl, inr, refl, ap, sym, ◌∙◌, arith, lit<}
 use Rattle.std.specs.List.{All}
 use Rattle.std.proofs.lemmas.Bool.{cases_lt, cases_eq}
 use Rattle.std.proofs.lemmas.List.{length-replicate}
@@ -16,7 +16,6 @@ module _ (g : Shape) (zones zones' : Zones) (pointers pointers' : List ℕ) (zon
     (stored : IsStored g zones pointers) (whole : length bytes ≡ 512 * count_of bytes)
     (inside : IsInside zone start (count_of bytes) g) (puts : PutsBytes zone start bytes zones zones')
     (moves : MovesPointer g zone (start + count_of bytes) pointers pointers') where
-
   fits : 512 * start + length bytes ≤ length (zone_bytes zones zone)
   fits = let size = stored.sizes zone inside.0 in let last = inside.1 in omega arith
 
@@ -59,7 +58,8 @@ module _ (g : Shape) (zones zones' : Zones) (pointers pointers' : List ℕ) (zon
       let end = 512 * start + length bytes in
       let front = All-take IsByte (512 * start) old (stored.bytes zone) in
       let back = All-drop IsByte end old (stored.bytes zone) in
-      All-append IsByte (take (512 * start) old ++ bytes) (drop end old) (All-append IsByte (take (512 * start) old) bytes front small) back
+      let put = All-append IsByte (take (512 * start) old) bytes front small in
+      All-append IsByte (take (512 * start) old ++ bytes) (drop end old) put back
 
   pub stored_of : All IsByte bytes → IsStored g zones' pointers'
   stored_of small =
@@ -78,7 +78,8 @@ module _ (g : Shape) (zones zones' : Zones) (pointers pointers' : List ℕ) (zon
           | inl same ↦
               let now = ap (λ (y : ℕ). zone_bytes zones' y) same ∙ puts.put in
               All-same IsByte (zone_bytes zones' z) (pasted old bytes (512 * start) fits) now (bytes_put small)
-          | inr other ↦ All-same IsByte (zone_bytes zones' z) (zone_bytes zones z) (puts.others z other) (stored.bytes z)
+          | inr other ↦
+              All-same IsByte (zone_bytes zones' z) (zone_bytes zones z) (puts.others z other) (stored.bytes z)
         ];
         within = λ z. elim (cases_eq z zone) [
           | inl same ↦
@@ -126,8 +127,12 @@ module _ (g : Shape) (count size : ℕ) (zones : Zones) (pointers : List ℕ) (a
     pointer_count = ap length are.pointers_are ∙ length-replicate count 0 ∙ are.all;
     sizes = λ z h. ap length (are.zeros z (omega (arith, are.all))) ∙ length-replicate size 0 ∙ are.whole;
     bytes = λ z. elim (cases_lt z count) [
-      | inl there ↦ All-same IsByte (zone_bytes zones z) (replicate size 0) (are.zeros z there) (All-replicate IsByte size 0 (lit< tt))
-      | inr behind ↦ All-same IsByte (zone_bytes zones z) [] (zone_bytes-past zones z (omega (arith, are.zone_count))) (All-nil IsByte)
+      | inl there ↦
+          let zeros = All-replicate IsByte size 0 (lit< tt) in
+          All-same IsByte (zone_bytes zones z) (replicate size 0) (are.zeros z there) zeros
+      | inr behind ↦
+          let none = zone_bytes-past zones z (omega (arith, are.zone_count)) in
+          All-same IsByte (zone_bytes zones z) [] none (All-nil IsByte)
     ];
     within = λ z. (let e = pointer z in omega arith);
   }

@@ -9,7 +9,6 @@ use Rattle.zd_disk.specs.Steps.{piece}
 use Rattle.zd_memdisk.specs.Stored.{Zones, zone_bytes, image_of, IsByte, IsStored}
 
 module _ (g : Shape) (zones : Zones) (pointers : List ℕ) where
-
   pub held_conventional : (z : ℕ) → z < g.conv → (image_of g zones pointers).held z ≡ zone_sectors g
   held_conventional z h = ap (λ (b : Bool). cond b (zone_sectors g) (get_or pointers z 0)) (lt-ltb z g.conv h)
 
