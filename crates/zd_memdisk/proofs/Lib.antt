@@ -1,3 +1,4 @@
 pub mod ZoneBytes
 pub mod Windows
 pub mod Writes
+pub mod FailLaws

@@ -1,5 +1,6 @@
 -- What contracts see of a disk in memory.
-use Rattle.std.specs.Prelude.{◌≡◌, ℕ, ◌*◌, ◌/◌, IsTrue, if◌then◌else◌, List, take, Option, Some}
+use Rattle.std.specs.Prelude.{◌≡◌, ℕ, ◌*◌, ◌/◌, IsTrue, if◌then◌else◌, List, take, Option, Some, Result, IsErr, ◌↔◌}
+use Rattle.zd_base.specs.Faults.{HasCause}
 use Rattle.zd_base.specs.Geometry.{Shape}
 use Rattle.zd_model.specs.Image.{Image, IsImage}
 use Rattle.zd_disk.specs.Steps.{count_of}
@@ -35,18 +36,25 @@ disk_fails d = d.fails.items
 abbrev pub Names : MemDisk → DeviceCall → Option ℕ → Type 0
 Names d call zone = IsTrue (names (disk_fails d) call zone)
 
--- each item that means the call has counted it, and the call is a fault where an item named it
-pub record HasCounted (call : DeviceCall) (zone : Option ℕ) (old new : MemDisk) : Type 0 where
+-- the call failed exactly where the list said so; each item that means it has counted it, and a failure is a fault
+pub record ObeysList {T E : Type 0} (call : DeviceCall) (zone : Option ℕ) (old new : MemDisk) (result : Result T E)
+    : Type 0 where
+  pub failed : IsErr result ↔ Names old call zone
   pub fails : disk_fails new ≡ all_counted (disk_fails old) call zone
-  pub faults : disk_faults new ≡ (if names (disk_fails old) call zone then next_count (disk_faults old) else disk_faults old)
+  pub faults : disk_faults new
+      ≡ (if names (disk_fails old) call zone then next_count (disk_faults old) else disk_faults old)
+  pub cause : HasCause (disk_faults old) (disk_faults new) result
 
 -- the first half of some sectors, rounded down
 abbrev pub front_half : List ℕ → List ℕ
 front_half bytes = take (512 * (count_of bytes / 2)) bytes
 
--- what it tells of itself agrees
-pub disk_agrees : (d : MemDisk) (i : Image) → ◌≡◌ {A = Option Image} (Some (disk_image d)) (Some i) → ◌≡◌ {A = Option Shape} (Some (disk_geometry d)) (Some i.geometry)
+-- what it reads as has the geometry that it tells
+pub disk_agrees : (d : MemDisk) (i : Image)
+    → ◌≡◌ {A = Option Image} (Some (disk_image d)) (Some i)
+    → ◌≡◌ {A = Option Shape} (Some (disk_geometry d)) (Some i.geometry)
 disk_agrees d i e = agrees_of d.store.geometry d.store.zones.items d.store.pointers.items i e
 
+-- what it reads as is an image
 pub disk_shaped : (d : MemDisk) (i : Image) → ◌≡◌ {A = Option Image} (Some (disk_image d)) (Some i) → IsImage i
 disk_shaped d i e = shaped_of d.store.geometry d.store.zones.items d.store.pointers.items d.store.stored i e

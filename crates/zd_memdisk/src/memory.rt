@@ -1,13 +1,13 @@
 //! The disk in memory, and its calls.
 
-ghost use Rattle.std.specs.Prelude.{◌≡◌, ◌+◌, ◌*◌, ◌/◌, ◌<◌, ◌≤◌, ◌↔◌, ℕ, length, take, [], Some, None, IfOk, OnOk, OnErr, IsErr, IsTrue};
-ghost use Rattle.zd_base.specs.Faults.{HasCause};
+ghost use Rattle.std.specs.Prelude.{◌≡◌, ◌+◌, ◌*◌, ◌/◌, ◌<◌, ◌≤◌, ℕ, length, take, [], Some, None, IfOk, OnOk, OnErr};
 ghost use Rattle.zd_base.specs.Geometry.{zone_sectors};
 ghost use Rattle.zd_model.specs.Image.{run_of};
 ghost use Rattle.zd_disk.specs.Steps.{count_of, Wrote, WasReset};
 ghost use Rattle.zd_disk.specs.Told.{next_count, IsSequentialZone, IsInside};
+ghost use Rattle.zd_memdisk.specs.Fails.{CountsCalls};
 ghost use Rattle.zd_memdisk.specs.Stored.{IsBlank};
-ghost use Rattle.zd_memdisk.specs.Disks.{disk_geometry, disk_image, disk_calls, disk_faults, disk_fails, Names, HasCounted, front_half, disk_agrees, disk_shaped};
+ghost use Rattle.zd_memdisk.specs.Disks.{disk_geometry, disk_image, disk_calls, disk_faults, disk_fails, ObeysList, front_half, disk_agrees, disk_shaped};
 
 use crate::fails::{DeviceCall, Fail, count_call};
 use crate::store::Store;
@@ -33,6 +33,8 @@ fn first_half(bytes: &[u8]) -> &[u8]
 
 impl MemDisk {
     /// A disk of zeros, with all pointers 0. It has had no call, and no call is to fail.
+    ///
+    /// It takes the memory of all zones; no later call takes any. `Memory` leaves nothing.
     pub fn blank(alloc: Global, geometry: Geometry) -> Result<MemDisk, Memory>
         ensures zones { IfOk result (λ d. IsBlank geometry (disk_image d)) }
         ensures calls { IfOk result (λ d. disk_calls d ≡ 0) }
@@ -50,12 +52,14 @@ impl MemDisk {
         })
     }
 
-    /// Has these calls fail, and no others.
+    /// Has these calls fail, and no others. They are counted from now on.
     ///
-    /// Calls are counted from now on. A write that fails puts the first half of its sectors, rounded
-    /// down, and any other call that fails does nothing.
+    /// Items count apart, also where several mean one call; it fails where it is the nth of one of
+    /// them. A write that fails puts the first half of its sectors, rounded down. Any other call that
+    /// fails does nothing.
     pub fn fail_at(&mut self, fails: Vec<Fail>)
         ensures fails { disk_fails self.new ≡ fails.items }
+        ensures nth { CountsCalls fails.items }
         ensures zones { disk_image self.new ≡ disk_image self.old }
         ensures calls { disk_calls self.new ≡ disk_calls self.old }
         ensures faults { disk_faults self.new ≡ disk_faults self.old }
@@ -72,9 +76,7 @@ impl MemDisk {
 
     // Counts a call at the list, which says whether it fails.
     fn answer(&mut self, call: DeviceCall, zone: Option<ZoneNo>) -> Result<(), Failed>
-        ensures named { IsErr result ↔ Names self.old call zone }
-        ensures counted { HasCounted call zone self.old self.new }
-        ensures cause { HasCause (disk_faults self.old) (disk_faults self.new) result }
+        ensures cause { ObeysList call zone self.old self.new result }
         ensures same { (self.new.store ≡ self.old.store) × (self.new.calls ≡ self.old.calls) }
     {
         if count_call(&mut self.fails, call, zone) {
@@ -103,9 +105,7 @@ impl ZonedDisk for MemDisk {
         ensures told { disk_geometry self.new ≡ disk_geometry self.old }
         ensures zones { disk_image self.new ≡ disk_image self.old }
         ensures calls { disk_calls self.new ≡ disk_calls self.old }
-        ensures faults { HasCounted DeviceCall.Geometry None self.old self.new }
-        ensures named { IsErr result ↔ Names self.old DeviceCall.Geometry None }
-        ensures cause { HasCause (disk_faults self.old) (disk_faults self.new) result }
+        ensures cause { ObeysList DeviceCall.Geometry None self.old self.new result }
     {
         self.answer(DeviceCall::Geometry, None)?;
         Ok(self.store.geometry())
@@ -118,9 +118,7 @@ impl ZonedDisk for MemDisk {
         ensures told { disk_geometry self.new ≡ disk_geometry self.old }
         ensures zones { disk_image self.new ≡ disk_image self.old }
         ensures calls { disk_calls self.new ≡ disk_calls self.old }
-        ensures faults { HasCounted DeviceCall.Report (Some zone) self.old self.new }
-        ensures named { IsErr result ↔ Names self.old DeviceCall.Report (Some zone) }
-        ensures cause { HasCause (disk_faults self.old) (disk_faults self.new) result }
+        ensures cause { ObeysList DeviceCall.Report (Some zone) self.old self.new result }
     {
         self.answer(DeviceCall::Report, Some(zone))?;
         Ok(self.store.pointer(zone))
@@ -128,16 +126,16 @@ impl ZonedDisk for MemDisk {
 
     fn read(&mut self, zone: ZoneNo, start: u32, into: &mut [u8]) -> Result<(), Failed>
         requires whole { length into.old ≡ 512 * count_of into.old }
+        requires some { 0 < count_of into.old }
         requires inside { IsInside zone start (count_of into.old) (disk_geometry self.old) }
+        requires below { start + count_of into.old ≤ (disk_image self.old).held zone }
         ensures value { OnOk result (into.new
             ≡ run_of ((disk_image self.old).sector zone) start (count_of into.old)) }
         ensures err { OnErr result (into.new ≡ into.old) }
         ensures told { disk_geometry self.new ≡ disk_geometry self.old }
         ensures zones { disk_image self.new ≡ disk_image self.old }
         ensures calls { disk_calls self.new ≡ disk_calls self.old }
-        ensures faults { HasCounted DeviceCall.Read (Some zone) self.old self.new }
-        ensures named { IsErr result ↔ Names self.old DeviceCall.Read (Some zone) }
-        ensures cause { HasCause (disk_faults self.old) (disk_faults self.new) result }
+        ensures cause { ObeysList DeviceCall.Read (Some zone) self.old self.new result }
     {
         self.answer(DeviceCall::Read, Some(zone))?;
         self.store.read(zone, start, into);
@@ -146,16 +144,17 @@ impl ZonedDisk for MemDisk {
 
     fn write(&mut self, zone: ZoneNo, start: u32, bytes: &[u8]) -> Result<(), Failed>
         requires whole { length bytes.now ≡ 512 * count_of bytes.now }
+        requires some { 0 < count_of bytes.now }
         requires inside { IsInside zone start (count_of bytes.now) (disk_geometry self.old) }
-        requires pointer { (disk_geometry self.old).conv ≤ zone → start ≡ (disk_image self.old).held zone }
-        ensures ok { OnOk result (Wrote zone start bytes.now (disk_image self.old) (disk_image self.new)) }
+        requires pointer { (disk_geometry self.old).conv ≤ zone
+            → start ≡ (disk_image self.old).held zone }
+        ensures ok { OnOk result
+            (Wrote zone start bytes.now (disk_image self.old) (disk_image self.new)) }
         ensures err { OnErr result
             (Wrote zone start (front_half bytes.now) (disk_image self.old) (disk_image self.new)) }
         ensures told { disk_geometry self.new ≡ disk_geometry self.old }
         ensures calls { disk_calls self.new ≡ next_count (disk_calls self.old) }
-        ensures faults { HasCounted DeviceCall.Write (Some zone) self.old self.new }
-        ensures named { IsErr result ↔ Names self.old DeviceCall.Write (Some zone) }
-        ensures cause { HasCause (disk_faults self.old) (disk_faults self.new) result }
+        ensures cause { ObeysList DeviceCall.Write (Some zone) self.old self.new result }
     {
         self.calls = self.calls.saturating_add(1);
         let answer = self.answer(DeviceCall::Write, Some(zone));
@@ -173,9 +172,7 @@ impl ZonedDisk for MemDisk {
         ensures err { OnErr result (disk_image self.new ≡ disk_image self.old) }
         ensures told { disk_geometry self.new ≡ disk_geometry self.old }
         ensures calls { disk_calls self.new ≡ next_count (disk_calls self.old) }
-        ensures faults { HasCounted DeviceCall.Reset (Some zone) self.old self.new }
-        ensures named { IsErr result ↔ Names self.old DeviceCall.Reset (Some zone) }
-        ensures cause { HasCause (disk_faults self.old) (disk_faults self.new) result }
+        ensures cause { ObeysList DeviceCall.Reset (Some zone) self.old self.new result }
     {
         self.calls = self.calls.saturating_add(1);
         self.answer(DeviceCall::Reset, Some(zone))?;
@@ -187,9 +184,7 @@ impl ZonedDisk for MemDisk {
         ensures zones { disk_image self.new ≡ disk_image self.old }
         ensures told { disk_geometry self.new ≡ disk_geometry self.old }
         ensures calls { disk_calls self.new ≡ next_count (disk_calls self.old) }
-        ensures faults { HasCounted DeviceCall.Flush None self.old self.new }
-        ensures named { IsErr result ↔ Names self.old DeviceCall.Flush None }
-        ensures cause { HasCause (disk_faults self.old) (disk_faults self.new) result }
+        ensures cause { ObeysList DeviceCall.Flush None self.old self.new result }
     {
         self.calls = self.calls.saturating_add(1);
         self.answer(DeviceCall::Flush, None)

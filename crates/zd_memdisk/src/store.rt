@@ -5,7 +5,7 @@ ghost use Rattle.zd_base.specs.Geometry.{Shape, zone_count, zone_sectors};
 ghost use Rattle.zd_model.specs.Image.{run_of};
 ghost use Rattle.zd_disk.specs.Steps.{count_of, Wrote, WasReset};
 ghost use Rattle.zd_disk.specs.Told.{IsInside, IsSequentialZone};
-ghost use Rattle.zd_memdisk.specs.Stored.{zone_bytes, image_of, IsStored, IsBlank};
+ghost use Rattle.zd_memdisk.specs.Stored.{zone_bytes, image_of, IsStored, PutsBytes, MovesPointer, IsBlank};
 
 use std::alloc::{AllocError, Global};
 use zd_base::{Geometry, SECTOR, ZoneNo};
@@ -53,18 +53,25 @@ fn read_zone(zones: &Vec<Vec<u8>>, zone: u32, start: u32, into: &mut [u8])
 fn write_zone(zones: &mut Vec<Vec<u8>>, zone: u32, start: u32, bytes: &[u8])
     requires zone { zone < length zones.old.items }
     requires inside { 512 * start + length bytes.now ≤ length (zone_bytes zones.old.items zone) }
-    ensures count { length zones.new.items ≡ length zones.old.items }
-    ensures others { (y : ℕ) → y ≢ zone
-        → zone_bytes zones.new.items y ≡ zone_bytes zones.old.items y }
-    ensures put { zone_bytes zones.new.items zone
-        ≡ take (512 * start) (zone_bytes zones.old.items zone) ++ bytes.now
-        ++ drop (512 * start + length bytes.now) (zone_bytes zones.old.items zone) }
+    ensures { PutsBytes zone start bytes.now zones.old.items zones.new.items }
 {
     let there = &mut zones[zone as usize];
     copy_in(there, start, bytes);
 }
 
-// Puts these sectors into a zone, whose pointer moves where it has one.
+// Moves the pointer of the zone behind these sectors, where it has one.
+fn move_pointer(geometry: &Geometry, pointers: &mut Vec<u32>, zone: u32, start: u32, bytes: &[u8])
+    requires zone { zone < length pointers.old.items }
+    requires inside { start + count_of bytes.now ≤ zone_sectors geometry.now }
+    ensures { MovesPointer geometry.now zone (start + count_of bytes.now)
+        pointers.old.items pointers.new.items }
+{
+    if zone >= geometry.conv() {
+        pointers[zone as usize] = start + (bytes.len() / SECTOR) as u32;
+    }
+}
+
+// Puts these sectors into a zone.
 fn put(
     geometry: &Geometry,
     zones: &mut Vec<Vec<u8>>,
@@ -76,16 +83,15 @@ fn put(
     requires stored { IsStored geometry.now zones.old.items pointers.old.items }
     requires whole { length bytes.now ≡ 512 * count_of bytes.now }
     requires inside { IsInside zone start (count_of bytes.now) geometry.now }
-    requires pointer { geometry.now.conv ≤ zone → start ≡ slice_index pointers.old.items zone }
+    requires pointer { geometry.now.conv ≤ zone
+        → start ≡ slice_index pointers.old.items zone }
     ensures stored { IsStored geometry.now zones.new.items pointers.new.items }
     ensures wrote { Wrote zone start bytes.now
         (image_of geometry.now zones.old.items pointers.old.items)
         (image_of geometry.now zones.new.items pointers.new.items) }
 {
     write_zone(zones, zone, start, bytes);
-    if zone >= geometry.conv() {
-        pointers[zone as usize] = start + (bytes.len() / SECTOR) as u32;
-    }
+    move_pointer(geometry, pointers, zone, start, bytes);
 }
 
 fn zeros(alloc: Global, size: usize) -> Result<Vec<u8>, AllocError>
@@ -161,7 +167,8 @@ impl Store {
     pub fn write(&mut self, zone: ZoneNo, start: u32, bytes: &[u8])
         requires whole { length bytes.now ≡ 512 * count_of bytes.now }
         requires inside { IsInside zone start (count_of bytes.now) self.old.geometry }
-        requires pointer { self.old.geometry.conv ≤ zone → start ≡ (store_image self.old).held zone }
+        requires pointer { self.old.geometry.conv ≤ zone
+            → start ≡ (store_image self.old).held zone }
         ensures wrote { Wrote zone start bytes.now (store_image self.old) (store_image self.new) }
         ensures same { self.new.geometry ≡ self.old.geometry }
     {

@@ -10,12 +10,23 @@ fn blank(rt: &HostRuntime) -> Result<MemDisk, Failure> {
     Ok(MemDisk::blank(rt.alloc(), geometry).ok().ok_or("memory")?)
 }
 
-fn fails(rt: &HostRuntime, call: DeviceCall, zone: Option<ZoneNo>, nth: u64) -> Result<Vec<Fail>, Failure> {
+fn fails(
+    rt: &HostRuntime,
+    call: DeviceCall,
+    zone: Option<ZoneNo>,
+    nth: u64,
+) -> Result<Vec<Fail>, Failure> {
     Ok(vec![in rt.alloc(); Fail { call, zone, nth }]?)
 }
 
 // Writes sectors, in a sequential zone at its pointer.
-fn put<D: ZonedDisk>(rt: &impl Abort, disk: &mut D, zone: u32, start: u32, bytes: &[u8]) -> Result<(), Failed> {
+fn put<D: ZonedDisk>(
+    rt: &impl Abort,
+    disk: &mut D,
+    zone: u32,
+    start: u32,
+    bytes: &[u8],
+) -> Result<(), Failed> {
     let geometry = disk.geometry()?;
     assert!(rt; zone < geometry.zones());
     assert!(rt; 0 < bytes.len() && bytes.len() % SECTOR == 0);
@@ -28,7 +39,13 @@ fn put<D: ZonedDisk>(rt: &impl Abort, disk: &mut D, zone: u32, start: u32, bytes
 }
 
 // Reads sectors, in a sequential zone from below its pointer.
-fn get<D: ZonedDisk>(rt: &impl Abort, disk: &mut D, zone: u32, start: u32, into: &mut [u8]) -> Result<(), Failed> {
+fn get<D: ZonedDisk>(
+    rt: &impl Abort,
+    disk: &mut D,
+    zone: u32,
+    start: u32,
+    into: &mut [u8],
+) -> Result<(), Failed> {
     let geometry = disk.geometry()?;
     assert!(rt; zone < geometry.zones());
     assert!(rt; 0 < into.len());
@@ -105,10 +122,17 @@ fn a_sequential_zone_is_written_at_its_pointer(rt: HostRuntime) -> Result<(), Fa
 fn a_write_that_fails_puts_half(rt: HostRuntime) -> Result<(), Failure> {
     let mut disk = blank(&rt)?;
     disk.fail_at(fails(&rt, DeviceCall::Write, None, 2)?);
-    put(&rt, &mut disk, 0, 0, &[1; 512])?;
-    assert_eq!(rt; put(&rt, &mut disk, 3, 0, &[2; 1536]), Err(Failed));
+    put(&rt, &mut disk, 0, 0, &[1; 2048])?;
+    assert_eq!(rt; put(&rt, &mut disk, 0, 0, &[2; 2048]), Err(Failed));
+    let mut into = [9u8; 2048];
+    get(&rt, &mut disk, 0, 0, &mut into)?;
+    for (i, want) in [2, 2, 1, 1].into_iter().enumerate() {
+        assert_eq!(rt; into[512 * i], want);
+        assert_eq!(rt; into[512 * i + 511], want);
+    }
+    disk.fail_at(fails(&rt, DeviceCall::Write, Some(ZoneNo(3)), 1)?);
+    assert_eq!(rt; put(&rt, &mut disk, 3, 0, &[3; 1536]), Err(Failed));
     assert_eq!(rt; pointer(&rt, &mut disk, 3), Ok(1));
-    put(&rt, &mut disk, 3, 1, &[3; 512])?;
     assert_eq!(rt; disk.calls(), 3);
     Ok(())
 }

@@ -28,24 +28,26 @@ pub write-tells : goal.write-tells
 write-tells x c =
     let d = c.args.self.now in
     let bytes = c.args.bytes.now in
+    let held = held_conventional d.store.geometry d.store.zones.items d.store.pointers.items c.args.zone in
+    let now = disk_image c.new.self.now in
+    let front = step_of_front c.args.zone c.args.start (count_of bytes / 2) bytes (disk_image d) now
+    (omega arith) (λ h. let e = held h in omega (arith, c.requires.inside.1)) in
     record {
       ok = c.ensures.ok;
-      err = on_err_weaker c.result
-          (step_of_front c.args.zone c.args.start (count_of bytes / 2) bytes (disk_image d) (disk_image c.new.self.now) (omega arith)
-          (λ h. let e = held_conventional d.store.geometry d.store.zones.items d.store.pointers.items c.args.zone h in omega (arith, c.requires.inside.1)))
-          c.ensures.err;
+      err = on_err_weaker c.result front c.ensures.err;
       told = ap (λ (g : Shape). Some g) c.ensures.told;
       calls = c.ensures.calls;
-      cause = c.ensures.cause;
+      cause = c.ensures.cause.cause;
     }
 
 pub reset-tells : goal.reset-tells
 reset-tells x c = record {
   ok = c.ensures.ok;
-  err = on_err_weaker c.result (not_reset c.args.zone (disk_image c.args.self.now) (disk_image c.new.self.now)) c.ensures.err;
+  err = on_err_weaker c.result (not_reset c.args.zone (disk_image c.args.self.now) (disk_image c.new.self.now))
+      c.ensures.err;
   told = ap (λ (g : Shape). Some g) c.ensures.told;
   calls = c.ensures.calls;
-  cause = c.ensures.cause;
+  cause = c.ensures.cause.cause;
 }
 
 pub flush-tells : goal.flush-tells
@@ -53,5 +55,5 @@ flush-tells x c = record {
   zones = same (disk_image c.args.self.now) (disk_image c.new.self.now) c.ensures.zones;
   told = ap (λ (g : Shape). Some g) c.ensures.told;
   calls = c.ensures.calls;
-  cause = c.ensures.cause;
+  cause = c.ensures.cause.cause;
 }
