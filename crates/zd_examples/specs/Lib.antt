@@ -1,3 +1,5 @@
 pub mod Fresh
 pub mod Blocks
 pub mod Requests
+pub mod Histories
+pub mod Orders

@@ -4,3 +4,4 @@
 
 pub mod blocks;
 pub mod requests;
+pub mod histories;
