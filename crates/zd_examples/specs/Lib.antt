@@ -3,3 +3,4 @@ pub mod Blocks
 pub mod Requests
 pub mod Histories
 pub mod Orders
+pub mod Stops

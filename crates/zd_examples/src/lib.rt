@@ -5,3 +5,4 @@
 pub mod blocks;
 pub mod requests;
 pub mod histories;
+pub mod stops;
