@@ -4,3 +4,4 @@ pub mod Requests
 pub mod Histories
 pub mod Orders
 pub mod Stops
+pub mod Scripts

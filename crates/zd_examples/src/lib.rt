@@ -6,3 +6,4 @@ pub mod blocks;
 pub mod requests;
 pub mod histories;
 pub mod stops;
+pub mod scripts;
