@@ -5,3 +5,4 @@ pub mod Histories
 pub mod Orders
 pub mod Stops
 pub mod Scripts
+pub mod Reports

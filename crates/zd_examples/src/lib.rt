@@ -7,3 +7,4 @@ pub mod requests;
 pub mod histories;
 pub mod stops;
 pub mod scripts;
+pub mod reports;
