@@ -6,3 +6,4 @@ pub mod Orders
 pub mod Stops
 pub mod Scripts
 pub mod Reports
+pub mod Layouts

@@ -8,3 +8,4 @@ pub mod histories;
 pub mod stops;
 pub mod scripts;
 pub mod reports;
+pub mod layouts;
