@@ -7,3 +7,4 @@ pub mod Stops
 pub mod Scripts
 pub mod Reports
 pub mod Layouts
+pub mod Tables

@@ -1,8 +1,10 @@
 //! Disks, and the layouts that fit them.
 
 ghost use Rattle.std.specs.Prelude.{◌≡◌};
-ghost use Rattle.zd_base.specs.Geometry.{IsShape, IsZoneCount, IsZoneSize, kind_of, per, zone_sectors};
-ghost use Rattle.zd_base.specs.Layout.{Fits, device_blocks, first_data_zone, set_zones, used_blocks};
+ghost use Rattle.zd_base.specs.Geometry.{IsShape, IsZoneCount, IsZoneSize, kind_of, per};
+ghost use Rattle.zd_base.specs.Geometry.{zone_sectors};
+ghost use Rattle.zd_base.specs.Layout.{Fits, device_blocks, first_data_zone, set_zones};
+ghost use Rattle.zd_base.specs.Layout.{used_blocks};
 ghost use Rattle.zd_examples.specs.Fresh.{fresh_layout, small};
 ghost use Rattle.zd_examples.specs.Layouts.{few_bitmaps, large, large_layout, no_data_zone};
 ghost use Rattle.zd_examples.specs.Layouts.{one_data_zone, wide, wide_layout, with_bitmaps};

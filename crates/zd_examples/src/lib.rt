@@ -9,3 +9,4 @@ pub mod stops;
 pub mod scripts;
 pub mod reports;
 pub mod layouts;
+pub mod tables;

@@ -1,6 +1,7 @@
 //! Patterns, the plain array, and the pieces of requests.
 
-ghost use Rattle.std.specs.Prelude.{◌≡◌, ◌+◌, ◌-◌, ◌^◌, ◌++◌, [], ◌∷◌, drop, replicate, take, true, false};
+ghost use Rattle.std.specs.Prelude.{◌≡◌, ◌+◌, ◌-◌, ◌^◌, ◌++◌, [], ◌∷◌, drop, replicate, take, true};
+ghost use Rattle.std.specs.Prelude.{false};
 ghost use Rattle.zd_model.specs.Bytes.{overwrite, zero_sector};
 ghost use Rattle.zd_model.specs.Pieces.{pieces_of};
 ghost use Rattle.zd_model.specs.Plain.{Answer, ends_past, pattern, plain, word};

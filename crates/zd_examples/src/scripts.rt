@@ -6,7 +6,8 @@ ghost use Rattle.zd_model.specs.Text.{hex, numeral};
 ghost use Rattle.zd_model.specs.declared.requests.Request.{Request};
 ghost use Rattle.zd_model.specs.declared.texts.BadLine.{BadLine as WhyBad};
 ghost use Rattle.zd_examples.specs.Requests.{two_chunks_plan};
-ghost use Rattle.zd_examples.specs.Scripts.{all_kinds, greatest, most_discarded, too_much_discarded};
+ghost use Rattle.zd_examples.specs.Scripts.{all_kinds, greatest, most_discarded};
+ghost use Rattle.zd_examples.specs.Scripts.{too_much_discarded};
 ghost use Rattle.zd_examples.specs.Scripts.{too_much_moved};
 
 use zd_model::{BadLine, What};
