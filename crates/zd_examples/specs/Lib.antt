@@ -8,3 +8,4 @@ pub mod Scripts
 pub mod Reports
 pub mod Layouts
 pub mod Tables
+pub mod Choices

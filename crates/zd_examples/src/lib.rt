@@ -10,3 +10,4 @@ pub mod scripts;
 pub mod reports;
 pub mod layouts;
 pub mod tables;
+pub mod choices;
