@@ -1,2 +1,11 @@
 pub mod Fresh
 pub mod Blocks
+pub mod Requests
+pub mod Histories
+pub mod Orders
+pub mod Stops
+pub mod Scripts
+pub mod Reports
+pub mod Layouts
+pub mod Tables
+pub mod Choices

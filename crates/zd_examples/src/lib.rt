@@ -3,3 +3,11 @@
 #![tactic(auto)]
 
 pub mod blocks;
+pub mod requests;
+pub mod histories;
+pub mod stops;
+pub mod scripts;
+pub mod reports;
+pub mod layouts;
+pub mod tables;
+pub mod choices;

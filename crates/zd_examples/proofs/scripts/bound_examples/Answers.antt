@@ -1,0 +1,20 @@
+use Rattle.std.proofs.Common.{◌<◌, ◌≤◌, ◌^◌, arith, lit≤, lit<}
+use Rattle.zd_examples.proofs.scripts.bound_examples.Goals as goal
+
+pub returns-clause-greatest : goal.returns-clause-greatest
+returns-clause-greatest c = (lit< tt, lit≤ tt, lit< tt, lit< tt)
+
+pub returns-clause-least : goal.returns-clause-least
+returns-clause-least c = (lit< tt, lit≤ tt, lit< tt)
+
+pub returns-clause-block : goal.returns-clause-block
+returns-clause-block c h = let below : 2 ^ 64 < 2 ^ 64 = h.0 in omega arith
+
+pub returns-clause-no_block : goal.returns-clause-no_block
+returns-clause-no_block c h = let some : 1 ≤ 0 = h.1 in omega arith
+
+pub returns-clause-count : goal.returns-clause-count
+returns-clause-count c h = let below : 2 ^ 32 < 2 ^ 32 = h.2 in omega arith
+
+pub returns-clause-seed : goal.returns-clause-seed
+returns-clause-seed c h = let below : 2 ^ 32 < 2 ^ 32 = h.3 in omega arith

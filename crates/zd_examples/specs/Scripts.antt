@@ -1,0 +1,31 @@
+-- Plans of the examples of scripts.
+use Rattle.std.specs.Prelude.{ℕ, List, [], ◌∷◌}
+use Rattle.zd_model.specs.declared.requests.Request.{Request}
+use Rattle.zd_model.specs.declared.requests.What.TheVariants.{Read, Write, Discard, Flush}
+use Rattle.zd_examples.specs.Requests.{request, request_by}
+
+-- one of each kind, and the greatest caller
+abbrev pub all_kinds : List Request
+all_kinds =
+    request (Read 5 2)
+    ∷ request_by 1 (Write 10 1 99)
+    ∷ request_by 63 (Discard 0 100)
+    ∷ request_by 2 Flush
+    ∷ []
+
+-- the greatest block, seed and count
+abbrev pub greatest : List Request
+greatest =
+    request (Write 18446744073709551615 1 4294967295) ∷ request (Read 0 32767) ∷ []
+
+-- as many blocks discarded as may be, and one more; reads and writes count apart
+abbrev pub most_discarded : List Request
+most_discarded =
+    request (Discard 0 4194303) ∷ request (Read 0 32768) ∷ request (Discard 9 1) ∷ []
+
+abbrev pub too_much_discarded : List Request
+too_much_discarded = request (Discard 0 4194303) ∷ request (Discard 9 2) ∷ []
+
+-- one block more than may be read and written
+abbrev pub too_much_moved : List Request
+too_much_moved = request (Read 0 32768) ∷ request (Write 9 1 1) ∷ []
