@@ -185,3 +185,6 @@ pub fn plan_of(alloc: Global, bytes: &[u8]) -> Result<Vec<Request>, ScriptFault>
     }
     Ok(plan)
 }
+
+#[cfg(test)]
+mod tests;
