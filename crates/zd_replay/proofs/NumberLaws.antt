@@ -42,7 +42,7 @@ numeral_one n h = rw add-one (one_text n n (nat_lt n 10) refl h)
 
 numeral_last : (n : ℕ) → 10 ≤ n → numeral n ≡ numeral (n / 10) ++ (48 + n % 10) ∷ []
 unfolding numeral
-numeral_last n h = rw add-one (more_text n n (nat_lt n 10) refl h ∙ ap (λ xs. xs ++ (48 + n % 10) ∷ []) (last_digits-same n (n / 10 + 1) (n / 10) (omega arith) (omega arith)))
+numeral_last n h = rw (add-one n) (more_text n n (nat_lt n 10) refl h ∙ ap (λ xs. xs ++ (48 + n % 10) ∷ []) (last_digits-same n (n / 10 + 1) (n / 10) (omega arith) (omega arith)))
 
 numeral-push : (n c : ℕ) → 0 < n → IsDigit c → numeral n ++ c ∷ [] ≡ numeral (n * 10 + (c - 48))
 numeral-push n c h digit =

@@ -25,13 +25,13 @@ pub record IsPlanSoFar (bytes : List ℕ) (plan : List Request) (rest : List ℕ
   pub right : AllByRecursion IsRightRead plan
   pub left : IsLeft limits plan
 
-all-push : (P : Request → Type 0) (plan : List Request) (r : Request) → AllByRecursion P plan → P r → AllByRecursion P (plan ++ r ∷ [])
-all-push P [] r all h = (h, tt)
-all-push P (q ∷ plan) r all h = (all.0, all-push P plan r all.1 h)
+AllByRecursion-push : (P : Request → Type 0) (plan : List Request) (r : Request) → AllByRecursion P plan → P r → AllByRecursion P (plan ++ r ∷ [])
+AllByRecursion-push P [] r all h = (h, tt)
+AllByRecursion-push P (q ∷ plan) r all h = (all.0, AllByRecursion-push P plan r all.1 h)
 
-all-map : (P Q : Request → Type 0) → ((r : Request) → P r → Q r) → (plan : List Request) → AllByRecursion P plan → AllByRecursion Q plan
-all-map P Q f [] all = tt
-all-map P Q f (r ∷ plan) all = (f r all.0, all-map P Q f plan all.1)
+AllByRecursion-map : (P Q : Request → Type 0) → ((r : Request) → P r → Q r) → (plan : List Request) → AllByRecursion P plan → AllByRecursion Q plan
+AllByRecursion-map P Q f [] all = tt
+AllByRecursion-map P Q f (r ∷ plan) all = (f r all.0, AllByRecursion-map P Q f plan all.1)
 
 texts-push : (plan : List Request) (r : Request) (tail : List ℕ) → texts (plan ++ r ∷ []) ++ tail ≡ texts plan ++ (line_text r ++ tail)
 texts-push [] r tail = ap (λ xs. xs ++ tail) (append-nil (line_text r))
@@ -49,7 +49,7 @@ left_after limits left plan r before spends = record {
 pub one_more_line : (bytes : List ℕ) (plan : List Request) (r : Request) (rest tail : List ℕ) (limits left : Limits) → IsPlanSoFar bytes plan rest limits → rest ≡ line_text r ++ tail → IsRightRead r → Spends limits left r.what → IsPlanSoFar bytes (plan ++ r ∷ []) tail left
 one_more_line bytes plan r rest tail limits left so_far line right spends = record {
   text = so_far.text ∙ ap (λ xs. texts plan ++ xs) line ∙ sym (texts-push plan r tail);
-  right = all-push IsRightRead plan r so_far.right right;
+  right = AllByRecursion-push IsRightRead plan r so_far.right right;
   left = left_after limits left plan r so_far.left spends;
 }
 
@@ -70,12 +70,12 @@ plan_stands bytes plan rest limits so_far none small = record {
     size = small;
     lines = record {
       text = so_far.text ∙ ap (λ xs. texts plan ++ xs) none;
-      numbers = all-map IsRightRead (λ r. HasNumbers r.what) (λ r h. h.numbers) plan so_far.right;
-      callers = all-map IsRightRead (λ r. r.caller ≤ 63) (λ r h. few r.caller h.read.0) plan so_far.right;
+      numbers = AllByRecursion-map IsRightRead (λ r. HasNumbers r.what) (λ r h. h.numbers) plan so_far.right;
+      callers = AllByRecursion-map IsRightRead (λ r. r.caller ≤ 63) (λ r h. few r.caller h.read.0) plan so_far.right;
       limits = within limits plan so_far.left;
     };
   };
-  reads = all-map IsRightRead IsFirstCallersRead (λ r h. h.read) plan so_far.right;
+  reads = AllByRecursion-map IsRightRead IsFirstCallersRead (λ r h. h.read) plan so_far.right;
 }
 
 -- no right line within the limits is next

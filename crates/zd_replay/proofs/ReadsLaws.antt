@@ -59,6 +59,12 @@ pub record HasBlock (text : List ℕ) (b : ℕ) (more : List ℕ) : Type 0 where
 pub record HasCount (text : List ℕ) (b n : ℕ) (rest : List ℕ) : Type 0 where
   pub is : text ≡ 114 ∷ 32 ∷ 48 ∷ 32 ∷ (numeral b ++ 32 ∷ (numeral n ++ 10 ∷ rest))
 
+pub then_block : (text numbers more : List ℕ) (b : ℕ) → HasStart text numbers → numbers ≡ numeral b ++ 32 ∷ more → HasBlock text b more
+then_block text numbers more b start e = record { is = start.is ∙ ap (λ xs. 114 ∷ 32 ∷ 48 ∷ 32 ∷ xs) e }
+
+pub then_count : (text more rest : List ℕ) (b n : ℕ) → HasBlock text b more → more ≡ numeral n ++ 10 ∷ rest → HasCount text b n rest
+then_count text more rest b n block e = record { is = block.is ∙ ap (λ xs. 114 ∷ 32 ∷ 48 ∷ 32 ∷ (numeral b ++ 32 ∷ xs)) e }
+
 behind_start : (xs ys : List ℕ) → ◌≡◌ {A = List ℕ} (114 ∷ 32 ∷ 48 ∷ 32 ∷ xs) (114 ∷ 32 ∷ 48 ∷ 32 ∷ ys) → xs ≡ ys
 behind_start xs ys e = cc
 

@@ -3,8 +3,8 @@
 ghost use Rattle.std.specs.Prelude.{◌≡◌, ◌≢◌, ◌<◌, ◌≤◌, ◌++◌, ℕ, List, length, vec_len, IfOk, IfSome, IfNone};
 ghost use Rattle.zd_base.specs.Faults.{Rose};
 ghost use Rattle.zd_disk.specs.Told.{WhereTold};
-ghost use Rattle.zd_replay.specs.Reads.{IsNoScriptOfReads, IsScriptOfReads};
 ghost use Rattle.zd_model.specs.Script.{HasNumbers, line_text};
+ghost use Rattle.zd_replay.specs.Reads.{IsNoScriptOfReads, IsScriptOfReads};
 ghost use Rattle.zd_replay.specs.Script.{IsRightRead, ReadsOn, Spends};
 ghost use Rattle.zd_replay.specs.declared.script.ScriptFault.TheVariants.{Memory};
 
@@ -96,7 +96,7 @@ pub fn read_all<S: Source>(alloc: Global, from: &mut S) -> Result<Vec<u8>, Scrip
     Err(ScriptFault::NotReads)
 }
 
-/// The read by caller 0 of so many blocks from a block on.
+/// The read by caller 0 of so many blocks from a block on; `None` where a number is out of bounds.
 fn read_of(block: u128, count: u128) -> Option<Request>
     ensures found { IfSome result (λ r. r ≡ record { caller = 0; what = What.Read block count }) }
     ensures numbers { IfSome result (λ r. HasNumbers r.what) }
@@ -113,7 +113,7 @@ fn read_of(block: u128, count: u128) -> Option<Request>
     })
 }
 
-/// The request in front of a text, a read by caller 0, and what stands behind its line.
+/// The right read by caller 0 whose line stands in front of a text, and what stands behind the line.
 fn request(text: &[u8]) -> Option<(Request, &[u8])>
     ensures found { IfSome result (λ found. text.now ≡ line_text found.0 ++ found.1.now) }
     ensures right { IfSome result (λ found. IsRightRead found.0) }
@@ -185,3 +185,6 @@ pub fn plan_of(alloc: Global, bytes: &[u8]) -> Result<Vec<Request>, ScriptFault>
     }
     Ok(plan)
 }
+
+#[cfg(test)]
+mod tests;

@@ -1,16 +1,12 @@
-use Rattle.std.proofs.Common.{List, ℕ, ◌∷◌, ◌++◌, [], Some, None, ap, ◌∙◌}
+use Rattle.std.proofs.Common.{List, ℕ, ◌∷◌, [], Some, None}
 use Rattle.std.proofs.lemmas.Bool.Decides.{Decides-eqb}
 use Rattle.std.proofs.lemmas.Slice.Eq.{strip_prefix_is}
-use Rattle.zd_model.specs.Text.{numeral}
 use Rattle.zd_replay.proofs.NumberLaws.{where_none}
-use Rattle.zd_replay.proofs.ReadsLaws.{HasStart, HasBlock, HasCount, begins_read, numbers_stand, block_stands, numbers_right, line_stands}
+use Rattle.zd_replay.proofs.ReadsLaws.{HasStart, begins_read, numbers_stand, block_stands, numbers_right, line_stands, then_block, then_count}
 use Rattle.zd_replay.proofs.script.request.Goals as goal
 
 abbrev start : List ℕ
 start = 114 ∷ 32 ∷ 48 ∷ 32 ∷ []
-
-abbrev behind : List ℕ → List ℕ
-behind numbers = 114 ∷ 32 ∷ 48 ∷ 32 ∷ numbers
 
 pub returns-in_err-strip_prefix-clause-none : goal.returns-in_err-strip_prefix-clause-none
 returns-in_err-strip_prefix-clause-none c = where_none c.from_residual.result _ (λ r rest right is.
@@ -29,27 +25,32 @@ pub returns-in_err-count-clause-none : goal.returns-in_err-count-clause-none
 returns-in_err-count-clause-none c = where_none c.from_residual-in_err-count.result _ (λ r rest right is.
     let text = c.args.text.now in
     let begins = begins_read text r rest right is in
-    let block = c.in_ok-block.ensures.found in
-    let front = strip_prefix_is Decides-eqb text start (Some c.in_ok-strip_prefix.field-0) c.in_ok-strip_prefix.ensures.cases in
-    let has : HasBlock text block.0 c.in_ok-block.numbers.now = record { is = front ∙ ap behind block.1 } in
-    c.in_err-count.ensures.none begins.count rest (block_stands text c.in_ok-block.numbers.now rest block.0 begins has).1)
+    let numbers = c.in_ok-strip_prefix.field-0 in
+    let front : HasStart text numbers.now = record { is = strip_prefix_is Decides-eqb text start (Some numbers) c.in_ok-strip_prefix.ensures.cases } in
+    let found = c.in_ok-block.ensures.found in
+    let block = then_block text numbers.now c.in_ok-block.numbers.now found.0 front found.1 in
+    c.in_err-count.ensures.none begins.count rest (block_stands text c.in_ok-block.numbers.now rest found.0 begins block).1)
 
 pub returns-in_err-read_of-clause-none : goal.returns-in_err-read_of-clause-none
 returns-in_err-read_of-clause-none c = where_none c.from_residual-in_err-read_of.result _ (λ r rest right is.
     let text = c.args.text.now in
     let begins = begins_read text r rest right is in
-    let block = c.in_ok-block.ensures.found in
-    let count = c.in_ok-count.ensures.found in
-    let front = strip_prefix_is Decides-eqb text start (Some c.in_ok-strip_prefix.field-0) c.in_ok-strip_prefix.ensures.cases in
-    let has : HasCount text block.0 count.0 c.in_ok-count.rest.now = record { is = front ∙ ap behind (block.1 ∙ ap (λ xs. numeral block.0 ++ 32 ∷ xs) count.1) } in
-    c.in_err-read_of.ensures.none (numbers_right text rest c.in_ok-count.rest.now block.0 count.0 c.in_ok-block.block c.in_ok-count.count begins has block.2 count.2))
+    let numbers = c.in_ok-strip_prefix.field-0 in
+    let front : HasStart text numbers.now = record { is = strip_prefix_is Decides-eqb text start (Some numbers) c.in_ok-strip_prefix.ensures.cases } in
+    let found = c.in_ok-block.ensures.found in
+    let last = c.in_ok-count.ensures.found in
+    let block = then_block text numbers.now c.in_ok-block.numbers.now found.0 front found.1 in
+    let count = then_count text c.in_ok-block.numbers.now c.in_ok-count.rest.now found.0 last.0 block last.1 in
+    c.in_err-read_of.ensures.none (numbers_right text rest c.in_ok-count.rest.now found.0 last.0 c.in_ok-block.block c.in_ok-count.count begins count found.2 last.2))
 
 pub returns-clause-found : goal.returns-clause-found
 returns-clause-found c =
     let text = c.args.text.now in
-    let block = c.in_ok-block.ensures.found in
-    let count = c.in_ok-count.ensures.found in
-    let front = strip_prefix_is Decides-eqb text start (Some c.in_ok-strip_prefix.field-0) c.in_ok-strip_prefix.ensures.cases in
-    let has : HasCount text block.0 count.0 c.in_ok-count.rest.now = record { is = front ∙ ap behind (block.1 ∙ ap (λ xs. numeral block.0 ++ 32 ∷ xs) count.1) } in
+    let numbers = c.in_ok-strip_prefix.field-0 in
+    let front : HasStart text numbers.now = record { is = strip_prefix_is Decides-eqb text start (Some numbers) c.in_ok-strip_prefix.ensures.cases } in
+    let found = c.in_ok-block.ensures.found in
+    let last = c.in_ok-count.ensures.found in
+    let block = then_block text numbers.now c.in_ok-block.numbers.now found.0 front found.1 in
+    let count = then_count text c.in_ok-block.numbers.now c.in_ok-count.rest.now found.0 last.0 block last.1 in
     let read = c.in_ok-read_of.ensures in
-    line_stands text c.in_ok-count.rest.now block.0 count.0 c.in_ok-block.block c.in_ok-count.count c.in_ok-read_of.field-0 has block.2 count.2 read.found read.numbers
+    line_stands text c.in_ok-count.rest.now found.0 last.0 c.in_ok-block.block c.in_ok-count.count c.in_ok-read_of.field-0 count found.2 last.2 read.found read.numbers
