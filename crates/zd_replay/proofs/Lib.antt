@@ -8,3 +8,4 @@ pub mod LineText
 pub mod SinkLaws
 pub mod ReportLaws
 pub mod RunLaws
+pub mod CompleteLaws

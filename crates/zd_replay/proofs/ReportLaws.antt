@@ -93,6 +93,7 @@ reports words bytes image plan history outcome status faults now before after wh
           | inl same ↦ (let count : fault_count t.entries ≡ 0 = ap fault_count same.0 ∙ none in omega arith)
           | inr same ↦ (let count : fault_count t.entries ≡ 0 = ap fault_count same.0 in omega arith)
         ];
+        none = λ faultless. elim t.which [ inl same ↦ ap fault_count same.0 ∙ none | inr same ↦ ap fault_count same.0 ];
       };
       told = t.taken;
     }
@@ -115,7 +116,7 @@ reports_alone words bytes image outcome status faults now before after whole cau
   cause = cause;
   answers = answers;
   entries = nothing image [] (status ≡ 0) (λ zero_is. undone (done_where outcome status answers zero_is));
-  counted = record { later = later; rise = λ small. omega arith };
+  counted = record { later = later; rise = λ small. omega arith; none = λ faultless. refl };
   told = taken;
 }
 

@@ -67,9 +67,13 @@ pub record Takes (before : List ℕ) (after : Option (List ℕ)) (bytes : List �
   pub is_front : front ++ rest ≡ bytes
   pub all : whole → rest ≡ []
 
+-- nothing failed
+abbrev pub IsFaultless : ℕ → ℕ → Type 0
+IsFaultless before now = Rose before now → ⊥
+
 -- when the sink has the whole output: where all was done, and where it didn't fail
 abbrev pub IsTaken : ℕ → ℕ → ℕ → Type 0
-IsTaken status before now = (status ≡ 0) ⊎ (Rose before now → ⊥)
+IsTaken status before now = (status ≡ 0) ⊎ IsFaultless before now
 
 -- each caller's entries are all of its pieces
 abbrev pub IsWhole : ℕ → ℕ → List Request → List HistoryEntry → Type 0
@@ -92,10 +96,17 @@ pub record IsHistory (image : Image) (plan : List Request) (history : List Histo
   pub ordered : IsOrdered image.geometry.zone_blocks (length (base_of image) / 8) plan history
   pub all : whole → IsWhole image.geometry.zone_blocks (length (base_of image) / 8) plan history
 
+-- a command, a script that can be run, and a volume that can be opened
+pub record IsRight (words : List (List ℕ)) (bytes : List ℕ) (image : Image) : Type 0 where
+  pub command : IsCommand words
+  pub script : IsRunnable bytes
+  pub volume : Opens image
+
 -- one fault of the disk doesn't license two replies
 pub record AreCounted (history : List HistoryEntry) (before after : ℕ) : Type 0 where
   pub later : before ≤ after
   pub rise : after < 2 ^ 64 - 1 → fault_count history + before ≤ after
+  pub none : IsFaultless before after → fault_count history ≡ 0
 
 -- there is a history and an outcome, and what the sink took is their text
 pub record Reports (words : List (List ℕ)) (bytes : List ℕ) (image : Image) (status faults now : ℕ) (before : List ℕ) (after : Option (List ℕ)) (whole : Type 0) : Type 0 where

@@ -1,10 +1,13 @@
 //! Runs of scripts over a disk, from words and bytes to the report.
 #![tactic(auto)]
 
+mod alone;
 mod number;
-mod replay;
 mod report;
 mod run;
 mod script;
 mod tables;
 mod words;
+
+pub use alone::replay_alone;
+pub use words::paths_alone;

@@ -1,7 +1,8 @@
 //! The words of a command.
 
 ghost use Rattle.std.specs.Prelude.{◌≡◌, ◌/◌, map, string_bytes, IfOk, Some, None, true, false, not, slice_get, MatchBool, option_map};
-ghost use Rattle.zd_replay.specs.Words.{is_option, is_command};
+ghost use Rattle.std.specs.Option.{option_copied};
+ghost use Rattle.zd_replay.specs.Words.{is_option, is_command, NamesFiles};
 
 use zd_base::Memory;
 use zd_ports::Paths;
@@ -22,5 +23,28 @@ pub fn is_command(words: &[String]) -> bool
     match words {
         [image, script] => !is_option(image) && !is_option(script),
         _ => false,
+    }
+}
+
+/// The words that stand for the image and the script of a command; none where the words are no
+/// command. A path of `-` is standard input.
+///
+/// It takes no memory yet: `Memory` is kept for the commands that have options.
+pub fn paths_alone<'a>(words: &'a [String]) -> Result<Paths<'a>, Memory>
+    ensures value { IfOk result (λ paths. NamesFiles (map string_bytes words.now)
+        (option_copied paths.image) (option_copied paths.script)) }
+    ensures front { IfOk result (λ paths. paths.front ≡ None) }
+{
+    match words {
+        [image, script] if is_command(words) => Ok(Paths {
+            image: Some(image.as_str()),
+            script: Some(script.as_str()),
+            front: None,
+        }),
+        _ => Ok(Paths {
+            image: None,
+            script: None,
+            front: None,
+        }),
     }
 }

@@ -4,7 +4,7 @@ use Rattle.zd_model.specs.declared.texts.Outcome.{Outcome}
 use Rattle.zd_model.specs.declared.texts.Outcome.TheVariants as outcomes
 use Rattle.zd_replay.specs.Replay.{Ends}
 use Rattle.zd_replay.proofs.ReportLaws.{reports, reports_alone, ends_unopened, unopened, ends_run, history_of}
-use Rattle.zd_replay.proofs.replay.session.Goals as goal
+use Rattle.zd_replay.proofs.alone.session.Goals as goal
 
 pub returns-in-Err-clause-report : goal.returns-in-Err-clause-report
 returns-in-Err-clause-report g c words bytes right script image z before held =

@@ -7,7 +7,7 @@ use Rattle.zd_replay.specs.Replay.{IsHistory, fault_count}
 use Rattle.zd_replay.specs.Run.{zeros_for}
 use Rattle.zd_replay.proofs.ReportLaws.{nothing}
 use Rattle.zd_replay.proofs.RunLaws.{entered, all_zeros, no_faults}
-use Rattle.zd_replay.proofs.replay.run_plan.Goals as goal
+use Rattle.zd_replay.proofs.alone.run_plan.Goals as goal
 
 pub returns-in_default-clause-entries : goal.returns-in_default-clause-entries
 returns-in_default-clause-entries c image o = rw c.new.ensures (nothing image c.args.plan.now _ (λ e. cc))

@@ -8,7 +8,7 @@ ghost use Rattle.zd_disk.specs.Told.{WhereTold};
 ghost use Rattle.zd_model.specs.Image.{Image};
 ghost use Rattle.zd_replay.specs.Opening.{IsOpened, Opens};
 ghost use Rattle.zd_replay.specs.Reads.{IsNoScriptOfReads, IsScriptOfReads};
-ghost use Rattle.zd_replay.specs.Replay.{IsCommand, IsRunnable, IsReadPlan, script_outcome, open_outcome, IsHistory, IsTaken, IsStatus, IsSessionStatus, Reports, WhereAllTold, fault_count, no_memory};
+ghost use Rattle.zd_replay.specs.Replay.{IsCommand, IsRunnable, IsReadPlan, script_outcome, open_outcome, IsHistory, IsRight, IsFaultless, IsTaken, IsStatus, IsSessionStatus, Reports, WhereAllTold, fault_count, no_memory};
 ghost use Rattle.zd_replay.specs.Run.{AnswersZeros};
 
 use crate::report::{tell_all, tell_alone};
@@ -127,9 +127,17 @@ pub fn replay_alone<D: ZonedDisk, S: Source, K: Sink>(
     ensures source { result.0.0 ≡ 5 → Rose (S.faults script.old) (S.faults script.new) }
     ensures sink { result.0.0 ≡ 6 → Rose (K.faults out.old) (K.faults out.new) }
 
-    // The disk reads as before, and got no writing call.
+    // The disk reads as before, and got no writing call. It is the very disk where no call came to it.
     ensures zones { D.zones result.1 ≡ D.zones disk }
     ensures calls { D.calls result.1 ≡ D.calls disk }
+    ensures same { (result.0.0 ≡ 1) ⊎ (result.0.0 ≡ 5) → result.1 ≡ disk }
+    ensures unread { WhereTold (S.left script.old) (λ bytes. IsNoScriptOfReads bytes → result.1 ≡ disk) }
+
+    // Where nothing is wrong and nothing fails, all is done, unless no memory is found.
+    ensures complete { WhereAllTold (D.zones disk) (S.left script.old) (K.held out.old)
+        (λ image bytes before. IsRight (map string_bytes words.now) bytes image →
+        IsFaultless (D.faults disk) (D.faults result.1) → IsFaultless (S.faults script.old) (S.faults script.new) →
+        IsFaultless (K.faults out.old) (K.faults out.new) → (result.0.0 ≡ 0) ⊎ (result.0.0 ≡ 7)) }
 {
     if !is_command(words) {
         return (tell_alone(out, Outcome::Usage), disk);
