@@ -1,12 +1,22 @@
 -- A number's text is what its digits are, and begins with no zero but in 0.
-use Rattle.std.proofs.Common.{◌≡◌, ◌≢◌, ℕ, zero, suc, ◌+◌, ◌-◌, ◌*◌, ◌/◌, ◌%◌, ◌<◌, ◌≤◌, Bool, true, false, List, [], ◌∷◌, ◌++◌, length, Option, Some, None, IfNone, get_or, take, drop, refl, sym, ap, ap₂, ◌∙◌, arith, take-append-drop, add-one, ltb as nat_lt}
-use Rattle.std.proofs.lemmas.List.{append_assoc, append-nil}
+use Rattle.std.proofs.Common.{◌≡◌, ◌≢◌, ℕ, zero, suc, ◌+◌, ◌-◌, ◌*◌, ◌/◌, ◌%◌, ◌<◌, ◌≤◌, Bool, true, false, List, [], ◌∷◌, ◌++◌, length, Option, Some, None, IfNone, not, cond, subst, get_or, take, drop, refl, sym, ap, ap₂, ◌∙◌, arith, take-append-drop, add-one, ltb as nat_lt}
+use Rattle.std.proofs.lemmas.List.{append_assoc, append-nil, get_or-take, get_or_default, length-take}
+use Rattle.std.proofs.lemmas.List.Quantifiers.{position-Some}
+use Rattle.std.proofs.lemmas.Iterator.Adapters.{position_from-zero}
+use Rattle.std.proofs.lemmas.Bool.Decides.{nat_tests}
+use Rattle.std.proofs.Math.Seq.{drop-cons}
 use borrow.Author.Tests.{ltb-true, ltb-false}
-use Rattle.std.specs.List.{All}
-use Rattle.std.specs.Char.{IsAsciiDigit}
+use Rattle.std.specs.List.{All, position, position_from}
+use Rattle.std.specs.Char.{is_ascii_digit, IsAsciiDigit}
 use Rattle.zd_model.specs.Text.{last_digits, numeral}
 use Rattle.zd_model.proofs.TextLaws.{IsDigit, AllDigits, numeral-writes, same_ends, same_numeral, no_end}
-use Rattle.zd_replay.specs.Number.{BeginsOther, BeginsDigits, HasNumber, value_after}
+use Rattle.zd_replay.specs.Number.{BeginsOther, HasNumber, value_after}
+
+-- so many digits stand in front, and no digit behind them
+pub record BeginsDigits (text : List ℕ) (count : ℕ) : Type 0 where
+  pub within : count ≤ length text
+  pub digits : All IsAsciiDigit (take count text)
+  pub ends : BeginsOther (drop count text)
 
 pub all_digits : (xs : List ℕ) → All IsAsciiDigit xs → AllDigits xs
 all_digits [] h = tt
@@ -140,12 +150,12 @@ number_is_front text count n rest begins has =
     record { digits = same.0; after = same.1 }
 
 -- digits alone have no number in front
-pub no_number : (text : List ℕ) (n : ℕ) (rest : List ℕ) → All IsAsciiDigit text → HasNumber text n rest → ⊥
+pub no_number : (text : List ℕ) (n : ℕ) (rest : List ℕ) → AllDigits text → HasNumber text n rest → ⊥
 no_number text n rest all has = by_end rest has.ends has.is
   where
     by_end : (more : List ℕ) → BeginsOther more → text ≡ numeral n ++ more → ⊥
     by_end [] ends is = ends
-    by_end (s ∷ more) ends is = no_end (numeral n) s more text (all_digits text all) (where_other s ends) (sym is)
+    by_end (s ∷ more) ends is = no_end (numeral n) s more text all (where_other s ends) (sym is)
 
 -- one number stands in front
 pub same_number : (text : List ℕ) (m n : ℕ) (rest more : List ℕ) → HasNumber text m rest → HasNumber text n more → (m ≡ n) × (rest ≡ more)
@@ -161,3 +171,39 @@ same_number text m n rest more one two = by_ends rest more one.ends two.ends (sy
 pub where_none : {X : Type 0} (o : Option X) (P : Type 0) → P → IfNone o P
 where_none None P h = h
 where_none (Some x) P h = tt
+
+abbrev other : ℕ → Bool
+other byte = not (is_ascii_digit byte)
+
+is_digit : (c : ℕ) → other c ≡ false → IsAsciiDigit c
+is_digit c e = grind (arith, nat_tests)
+
+no_digit : (c : ℕ) → other c ≡ true → IsAsciiDigit c → ⊥
+no_digit c e digit = grind (arith, nat_tests)
+
+in_front : (text : List ℕ) (i k d : ℕ) → k < length (take i text) → i < length text → IsAsciiDigit (get_or text k 0) → IsAsciiDigit (get_or (take i text) k d)
+in_front text i k d l h digit =
+    let before : k < i = omega (arith, length-take {A = ℕ}) in
+    subst IsAsciiDigit (sym (get_or-take i text k d before ∙ get_or_default text k d 0 (omega arith))) digit
+
+-- the digits before the first other byte
+pub begins_digits : (text : List ℕ) (count : ℕ) → Some count ≡ position other text → BeginsDigits text count
+begins_digits text count e =
+    let first = position-Some other text count 0 (sym e) in
+    record {
+      within = omega (arith, first.0);
+      digits = λ k d l. in_front text count k d l first.0 (is_digit (get_or text k 0) (first.2 k (omega (arith, length-take {A = ℕ}))));
+      ends = subst BeginsOther (sym (drop-cons text count 0 first.0)) (no_digit (get_or text count 0) first.1);
+    }
+
+first_is_digit : (x i : ℕ) (xs : List ℕ) (b : Bool) → other x ≡ b → cond b (Some i) (position_from other (i + 1) xs) ≡ None → (position_from other (i + 1) xs ≡ None → AllDigits xs) → AllDigits (x ∷ xs)
+first_is_digit x i xs true is e others = absurd (let f : ⊥ = cc in f)
+first_is_digit x i xs false is e others = let digit = is_digit x is in (record { low = digit.0; high = omega (arith, digit.1) }, others e)
+
+all_are_digits : (xs : List ℕ) (i : ℕ) → position_from other i xs ≡ None → AllDigits xs
+all_are_digits [] i e = tt
+all_are_digits (x ∷ xs) i e = first_is_digit x i xs (other x) refl e (all_are_digits xs (i + 1))
+
+-- no other byte
+pub digits_alone : (text : List ℕ) → None ≡ position other text → AllDigits text
+digits_alone text e = all_are_digits text 0 (sym (position_from-zero other text) ∙ sym e)

@@ -1,5 +1,5 @@
 -- A number in front of a text.
-use Rattle.std.specs.Prelude.{◌≡◌, ℕ, ◌+◌, ◌-◌, ◌*◌, ◌≤◌, List, [], ◌∷◌, ◌++◌, length, take, drop, All}
+use Rattle.std.specs.Prelude.{◌≡◌, ℕ, ◌+◌, ◌-◌, ◌*◌, List, [], ◌∷◌, ◌++◌}
 use Rattle.std.specs.Char.{IsAsciiDigit}
 use Rattle.zd_model.specs.Text.{numeral}
 
@@ -12,12 +12,6 @@ value_after n (digit ∷ digits) = value_after (n * 10 + (digit - 48)) digits
 abbrev pub BeginsOther : List ℕ → Type 0
 BeginsOther [] = ⊥
 BeginsOther (byte ∷ rest) = IsAsciiDigit byte → ⊥
-
--- so many digits stand in front, and no digit behind them
-pub record BeginsDigits (text : List ℕ) (count : ℕ) : Type 0 where
-  pub within : count ≤ length text
-  pub digits : All IsAsciiDigit (take count text)
-  pub ends : BeginsOther (drop count text)
 
 -- the number n stands in front, and no digit behind it
 pub record HasNumber (text : List ℕ) (n : ℕ) (rest : List ℕ) : Type 0 where

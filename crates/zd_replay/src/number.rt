@@ -1,17 +1,16 @@
 //! Numbers in texts.
 
-ghost use Rattle.std.specs.Prelude.{◌≡◌, ◌≢◌, ◌∷◌, ◌++◌, ◌^◌, ℕ, List, min, All, IsTrue, IfSome, IfNone};
-ghost use Rattle.std.specs.Char.{IsAsciiDigit};
+ghost use Rattle.std.specs.Prelude.{◌≡◌, ◌≢◌, ◌∷◌, ◌++◌, ◌^◌, ℕ, List, min, not, position, All, IsTrue, IfSome, IfNone};
+ghost use Rattle.std.specs.Char.{is_ascii_digit, IsAsciiDigit};
 ghost use Rattle.zd_model.specs.Text.{numeral};
-ghost use Rattle.zd_replay.specs.Number.{BeginsDigits, HasNumber, value_after};
+ghost use Rattle.zd_replay.specs.Number.{HasNumber, value_after};
 
 /// A number that no field of a text may have: one more than the largest block.
 const BEYOND: u128 = 1 << 64;
 
 /// How many digits stand in front of another byte; `None` where all bytes are digits.
 fn digit_count(text: &[u8]) -> Option<usize>
-    ensures found { IfSome result (BeginsDigits text.now) }
-    ensures none { IfNone result (All IsAsciiDigit text.now) }
+    ensures { result ≡ position (λ byte. not (is_ascii_digit byte)) text.now }
 {
     text.iter().position(|byte| !byte.is_ascii_digit())
 }
