@@ -11,3 +11,4 @@ pub mod reports;
 pub mod layouts;
 pub mod tables;
 pub mod choices;
+pub mod images;

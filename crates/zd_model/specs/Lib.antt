@@ -16,4 +16,3 @@ pub mod Text
 pub mod Script
 pub mod Report
 pub mod Laws
-pub mod Examples
