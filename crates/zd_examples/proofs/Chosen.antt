@@ -1,7 +1,7 @@
 -- The set that is chosen in images that begin as the fresh one.
 use Rattle.std.proofs.Common.{◌≡◌, ◌<◌, ℕ, zero, suc, refl, ◌∙◌, arith, lit<, Some}
 use Rattle.zd_model.specs.Bytes.{zero_sector, u32_at, u64_at}
-use Rattle.zd_model.specs.Image.{Image, block_at}
+use Rattle.zd_model.specs.Image.{block_at}
 use Rattle.zd_model.specs.Super.{block_of, decoded, has_zero_tail, behind_crc, crc_of}
 use Rattle.zd_model.specs.Volume.{chosen}
 use Rattle.zd_model.proofs.SameLaws.{same_chosen}

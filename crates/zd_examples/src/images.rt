@@ -75,7 +75,8 @@ pub fn table_place_examples()
         entry_in image (second_at 3 14 1) 511 ≡ entry_at (set_block image 3 1) 511 }
     ensures bits { (sector : ℕ → ℕ → List ℕ) →
         bits_in (large_image large sector) (large_chosen 0) 1
-        ≡ block_at (large_image large sector) 0 105 ++ (block_at (large_image large sector) 0 106 ++ []) }
+        ≡ block_at (large_image large sector) 0 105
+        ++ (block_at (large_image large sector) 0 106 ++ []) }
     ensures far_bits { (sector : ℕ → ℕ → List ℕ) →
         bits_in (large_image large sector) (large_chosen 2) 40000
         ≡ block_at (large_image large sector) 3 14567

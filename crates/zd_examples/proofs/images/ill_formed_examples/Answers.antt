@@ -1,7 +1,7 @@
 use Rattle.std.proofs.Common.{◌≡◌, ◌≤◌, ℕ, Bool, true, false, refl, inl, arith, lit≤, lit<}
 use Rattle.zd_model.specs.Bytes.{u32_at, zero_sector}
 use Rattle.zd_examples.specs.Blocks.{short_block}
-use Rattle.zd_model.specs.Super.{decoded, has_zero_tail, crc_of}
+use Rattle.zd_model.specs.Super.{decoded}
 use Rattle.zd_examples.proofs.images.ill_formed_examples.Goals as goal
 
 pub returns-clause-cut : goal.returns-clause-cut

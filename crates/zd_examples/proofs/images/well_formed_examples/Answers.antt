@@ -3,7 +3,6 @@ use Rattle.zd_model.specs.Bytes.{u32_at, u64_at, zero_sector}
 use Rattle.zd_model.specs.Super.{decoded, crc_of, has_zero_tail}
 use Rattle.zd_examples.specs.Blocks.{short_block}
 use Rattle.zd_model.specs.Faults.{bad_bit, bad_chunk}
-use Rattle.zd_model.specs.Image.{Image}
 use Rattle.zd_model.specs.Tables.{MapFollowsRules}
 use Rattle.zd_model.specs.Volume.{IsWellFormed, chosen, tables_of}
 use Rattle.zd_model.proofs.BitLaws.{bits_follow}
