@@ -1,11 +1,9 @@
 -- Images of which only the first blocks of zones count, with super blocks that are cut short.
 use Rattle.std.specs.Prelude.{ℕ, ◌*◌, ◌==◌, if◌then◌else◌, List, [], ◌∷◌, slice_index_or}
-use Rattle.zd_base.specs.Geometry.{Shape}
 use Rattle.zd_base.specs.declared.layout.Layout.{Layout}
 use Rattle.zd_model.specs.Bytes.{overwrite}
 use Rattle.zd_model.specs.Image.{Image}
 use Rattle.zd_model.specs.Volume.{Chosen}
-use Rattle.zd_model.specs.declared.metadata.Super.{Super}
 use Rattle.zd_examples.specs.Blocks.{short_block}
 use Rattle.zd_examples.specs.Fresh.{fresh_layout, head, small}
 

@@ -1,5 +1,5 @@
 -- Histories of the examples: right ones of 128 blocks and of two, and wrong ones of two.
-use Rattle.std.specs.Prelude.{ℕ, List, [], ◌∷◌, ◌++◌, replicate}
+use Rattle.std.specs.Prelude.{List, [], ◌∷◌, ◌++◌, replicate}
 use Rattle.zd_model.specs.History.{HistoryEntry}
 use Rattle.zd_model.specs.Plain.Answer.{Got, Done, Range, Fault}
 use Rattle.zd_model.specs.declared.requests.What.TheVariants.{Read, Write, Discard, Flush}
@@ -34,7 +34,8 @@ discard_history =
     ∷ entry 3 0 (Read 0 4) (Got (patterned 1 0 1 ++ replicate 8192 0 ++ patterned 1 3 1)) 1
     ∷ []
 
--- reads that failed between others, a write past the device at the same number, a write over another
+-- a read that failed between others, a write past the device at the same number, a write over
+-- another
 abbrev pub faulty_reads : List HistoryEntry
 faulty_reads =
     entry 1 0 (Write 1 1 5) Done 0
@@ -47,7 +48,8 @@ faulty_reads =
 
 -- a write that failed at the end; flushes that failed at the end
 abbrev pub faulty_write : List HistoryEntry
-faulty_write = entry 1 0 (Read 0 1) (Got (replicate 4096 0)) 0 ∷ entry 2 0 (Write 1 1 5) Fault 1 ∷ []
+faulty_write =
+    entry 1 0 (Read 0 1) (Got (replicate 4096 0)) 0 ∷ entry 2 0 (Write 1 1 5) Fault 1 ∷ []
 
 abbrev pub faulty_flushes : List HistoryEntry
 faulty_flushes = entry 1 0 Flush Fault 3 ∷ entry_by 7 2 0 Flush Fault 3 ∷ []

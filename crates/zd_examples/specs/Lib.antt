@@ -9,3 +9,4 @@ pub mod Reports
 pub mod Layouts
 pub mod Tables
 pub mod Choices
+pub mod Images

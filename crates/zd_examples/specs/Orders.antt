@@ -1,5 +1,5 @@
 -- Two callers' requests on one chunk, and the orders of their entries.
-use Rattle.std.specs.Prelude.{ℕ, List, [], ◌∷◌}
+use Rattle.std.specs.Prelude.{List, [], ◌∷◌}
 use Rattle.zd_model.specs.History.{HistoryEntry}
 use Rattle.zd_model.specs.Plain.Answer.{Done}
 use Rattle.zd_model.specs.declared.requests.Request.{Request}

@@ -1,5 +1,6 @@
 -- Plans of the examples of scripts.
-use Rattle.std.specs.Prelude.{ℕ, List, [], ◌∷◌}
+use Rattle.std.specs.Prelude.{◌≤◌, sum_by, List, [], ◌∷◌}
+use Rattle.zd_model.specs.Script.{discarded_blocks, moved_blocks}
 use Rattle.zd_model.specs.declared.requests.Request.{Request}
 use Rattle.zd_model.specs.declared.requests.What.TheVariants.{Read, Write, Discard, Flush}
 use Rattle.zd_examples.specs.Requests.{request, request_by}
@@ -29,3 +30,8 @@ too_much_discarded = request (Discard 0 4194303) ∷ request (Discard 9 2) ∷ [
 -- one block more than may be read and written
 abbrev pub too_much_moved : List Request
 too_much_moved = request (Read 0 32768) ∷ request (Write 9 1 1) ∷ []
+
+-- its blocks are within the limits
+pub record HasFewBlocks (plan : List Request) : Type 0 where
+  pub moved : sum_by (λ r. moved_blocks r.what) plan ≤ 32_768
+  pub discarded : sum_by (λ r. discarded_blocks r.what) plan ≤ 4_194_304

@@ -1,5 +1,5 @@
 -- Histories of two blocks that a stop cuts.
-use Rattle.std.specs.Prelude.{ℕ, List, [], ◌∷◌}
+use Rattle.std.specs.Prelude.{List, [], ◌∷◌}
 use Rattle.zd_model.specs.History.{HistoryEntry}
 use Rattle.zd_model.specs.Plain.Answer.{Done, Range, Fault}
 use Rattle.zd_model.specs.declared.requests.What.TheVariants.{Write, Discard, Flush}

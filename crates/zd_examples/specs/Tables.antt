@@ -8,7 +8,7 @@ use Rattle.zd_examples.specs.Fresh.{buffered, only, unmapped}
 abbrev pub buffer_alone : ℕ → MapEntry
 buffer_alone buffer = record { zone = None; buffer = Some buffer }
 
--- bits of zones 0 to 5, of zones 6 to 11: nothing but the first blocks of one zone
+-- the bits of one zone, and none of those before it
 abbrev pub bits_of : ℕ → List ℕ → List (List ℕ)
 bits_of zone bits = replicate zone [] ++ bits ∷ []
 
@@ -22,8 +22,8 @@ buffered_tables buffer zone = record {
   bits = replicate 4 [] ++ (buffer ∷ []) ∷ [] ∷ (zone ∷ []) ∷ (1 ∷ []) ∷ [];
 }
 
--- chunk 0 on zone 6 with buffer 4, block 0 valid there and block 3 here; chunk 2 on zone 2, its first
--- and last blocks valid
+-- chunk 0 on zone 6 with buffer 4, block 0 valid there and block 3 here; chunk 2 on zone 2, its
+-- first and last blocks valid
 abbrev pub served_tables : Tables
 served_tables = record {
   entries = buffered 6 4 ∷ unmapped ∷ only 2 ∷ [];

@@ -7,7 +7,8 @@ ghost use Rattle.zd_examples.specs.Choices.{without_magic};
 
 /// Where super block 0 is good, the greater generation of two sets of one size is chosen.
 pub fn two_set_examples()
-    ensures tie { chosen (beginning (at_zone 0 14 3 ∷ at_zone 1 14 3 ∷ [])) ≡ Some (first_of 14 3 1) }
+    ensures tie { chosen (beginning (at_zone 0 14 3 ∷ at_zone 1 14 3 ∷ []))
+        ≡ Some (first_of 14 3 1) }
     ensures newer { chosen (beginning (at_zone 0 14 3 ∷ at_zone 1 14 4 ∷ []))
         ≡ Some (second_at 1 14 4) }
     ensures older { chosen (beginning (at_zone 0 14 3 ∷ at_zone 1 14 2 ∷ []))
@@ -24,7 +25,8 @@ pub fn two_set_examples()
         ≡ Some (first_of 14 3 1) }
     ensures two_zones { chosen (beginning (at_zone 0 20 3 ∷ at_zone 1 20 5 ∷ at_zone 2 20 4 ∷ []))
         ≡ Some (second_at 2 20 4) }
-    ensures last_zone { chosen (beginning (at_zone 0 80 3 ∷ [] ∷ [] ∷ [] ∷ [] ∷ at_zone 5 80 4 ∷ []))
+    ensures last_zone { chosen
+        (beginning (at_zone 0 80 3 ∷ [] ∷ [] ∷ [] ∷ [] ∷ at_zone 5 80 4 ∷ []))
         ≡ Some (second_at 5 80 4) }
     ensures sequential { chosen
         (beginning (at_zone 0 96 3 ∷ [] ∷ [] ∷ [] ∷ [] ∷ [] ∷ at_zone 6 96 4 ∷ []))
@@ -41,10 +43,12 @@ pub fn one_set_examples()
         ≡ Some (second_at 1 14 4) }
     ensures moved { chosen (beginning (at_zone 3 14 9 ∷ at_zone 1 14 4 ∷ []))
         ≡ Some (second_at 1 14 4) }
-    ensures two_zones { chosen (beginning ([] ∷ [] ∷ at_zone 2 20 4 ∷ [])) ≡ Some (second_at 2 20 4) }
+    ensures two_zones { chosen (beginning ([] ∷ [] ∷ at_zone 2 20 4 ∷ []))
+        ≡ Some (second_at 2 20 4) }
     ensures last_zone { chosen (beginning ([] ∷ [] ∷ [] ∷ [] ∷ [] ∷ at_zone 5 80 4 ∷ []))
         ≡ Some (second_at 5 80 4) }
-    ensures sequential { chosen (beginning ([] ∷ [] ∷ [] ∷ [] ∷ [] ∷ [] ∷ at_zone 6 96 4 ∷ [])) ≡ None }
+    ensures sequential { chosen
+        (beginning ([] ∷ [] ∷ [] ∷ [] ∷ [] ∷ [] ∷ at_zone 6 96 4 ∷ [])) ≡ None }
     ensures other_size { chosen (beginning ([] ∷ at_zone 1 20 4 ∷ [])) ≡ None }
     ensures first_decides { chosen
         (beginning ([] ∷ spoilt (at_zone 1 14 4) ∷ at_zone 2 20 4 ∷ [])) ≡ None }

@@ -23,7 +23,8 @@ pub fn legal_examples()
     ensures discard { IsLegal zero_volume discard_history }
 {}
 
-/// What may fail: reads, a write at the end, flushes at the end. The first write may have any number.
+/// What may fail: reads, a write at the end, flushes at the end. The first write may have any
+/// number.
 pub fn fault_examples()
     ensures reads { IsLegal two_blocks faulty_reads }
     ensures write { IsLegal two_blocks faulty_write }

@@ -8,8 +8,8 @@ ghost use Rattle.zd_examples.specs.Histories.{last_block_history, two_chunks_his
 ghost use Rattle.zd_examples.specs.Reports.{faulty_history, flush_history, joined_history};
 ghost use Rattle.zd_examples.specs.Reports.{middle_history, nearly_pattern, nearly_zeros};
 
-use zd_model::{Ending, NoVolume, Outcome};
 use zd_base::Why;
+use zd_model::{Ending, NoVolume, Outcome};
 
 /// The line that ends an output, for each outcome.
 pub fn outcome_examples()
@@ -72,8 +72,8 @@ pub fn output_examples()
         ≡ codes "2 1000000 0 f done @18\nend 7 memory\n" }
 {}
 
-/// Rows of sectors: those of one seed are joined, other sectors stand by themselves, and each sector
-/// is compared with the pattern of its own place.
+/// Rows of sectors: those of one seed are joined, other sectors stand by themselves, and each
+/// sector is compared with the pattern of its own place.
 pub fn item_examples()
     ensures seeds { report joined_history Ending.Ok
         ≡ codes "0 12 1 r 3 3 data p5x16,p6x8 @107\nend 0 ok\n" }

@@ -11,8 +11,8 @@ ghost use Rattle.zd_examples.specs.Requests.{two_blocks, two_chunks_pieces, two_
 
 use zd_model::What;
 
-/// The words of a sector: the seed is the upper half of each, the place is the lower one, and begins
-/// again at 2^32.
+/// The words of a sector: the seed is the upper half of each, the place is the lower one, and
+/// begins again at 2^32.
 #[tactic(auto, unfolding(zd_model::specs::Plain::pattern))]
 pub fn pattern_examples()
     ensures first { word 3 5 0 ≡ 12884902208 }
@@ -56,7 +56,8 @@ pub fn piece_examples()
         ≡ piece 1 0 (What.Read 16 16) false ∷ [] }
     ensures last { pieces_of 16 128 (request (What.Read 127 1) ∷ [])
         ≡ piece 1 0 (What.Read 127 1) false ∷ [] }
-    ensures past { pieces_of 16 128 (request (What.Read 120 9) ∷ request_by 63 (What.Write 0 129 2) ∷ [])
+    ensures past { pieces_of 16 128
+        (request (What.Read 120 9) ∷ request_by 63 (What.Write 0 129 2) ∷ [])
         ≡ piece 1 0 (What.Read 120 9) true ∷ piece_by 63 2 0 (What.Write 0 129 2) true ∷ [] }
     ensures flush { pieces_of 16 128 (request What.Flush ∷ []) ≡ piece 1 0 What.Flush false ∷ [] }
 {}

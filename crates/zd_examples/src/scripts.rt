@@ -9,6 +9,7 @@ ghost use Rattle.zd_examples.specs.Requests.{two_chunks_plan};
 ghost use Rattle.zd_examples.specs.Scripts.{all_kinds, greatest, most_discarded};
 ghost use Rattle.zd_examples.specs.Scripts.{too_much_discarded};
 ghost use Rattle.zd_examples.specs.Scripts.{too_much_moved};
+ghost use Rattle.zd_examples.specs.Scripts.{HasFewBlocks};
 
 use zd_model::{BadLine, What};
 
@@ -29,8 +30,8 @@ pub fn script_examples()
     ensures empty { IsScript [] [] }
     ensures two { IsScript (codes "w 0 14 4 3\nr 0 14 4\n") two_chunks_plan }
     ensures kinds { IsScript (codes "r 0 5 2\nw 1 10 1 99\nd 63 0 100\nf 2\n") all_kinds }
-    ensures greatest {
-        IsScript (codes "w 0 18446744073709551615 1 4294967295\nr 0 0 32767\n") greatest }
+    ensures greatest { IsScript
+        (codes "w 0 18446744073709551615 1 4294967295\nr 0 0 32767\n") greatest }
     ensures discards { IsScript (codes "d 0 0 4194303\nr 0 0 32768\nd 0 9 1\n") most_discarded }
 {}
 
@@ -50,12 +51,14 @@ pub fn limit_examples()
     ensures discards_more { IsWithinLimits too_much_discarded → ⊥ }
     ensures moves { IsWithinLimits greatest }
     ensures moves_more { IsWithinLimits too_much_moved → ⊥ }
-    ensures requests_more {
-        (plan : List Request) → length plan ≡ 1_000_001 → IsWithinLimits plan → ⊥ }
-    ensures bytes_more {
-        (bytes : List ℕ) → length bytes ≡ 67_108_865 → Refuses bytes 0 BadLine.TooLong }
-    ensures bytes_most {
-        (bytes : List ℕ) (why : WhyBad) → length bytes ≡ 67_108_864 → Refuses bytes 0 why → ⊥ }
+    ensures requests_most { (plan : List Request) → length plan ≡ 1_000_000 →
+        HasFewBlocks plan → IsWithinLimits plan }
+    ensures requests_more { (plan : List Request) → length plan ≡ 1_000_001 →
+        IsWithinLimits plan → ⊥ }
+    ensures bytes_more { (bytes : List ℕ) → length bytes ≡ 67_108_865 →
+        Refuses bytes 0 BadLine.TooLong }
+    ensures bytes_most { (bytes : List ℕ) (why : WhyBad) → length bytes ≡ 67_108_864 →
+        Refuses bytes 0 why → ⊥ }
 {}
 
 /// What is refused, by which rule: form, number, caller and limits, in this order.

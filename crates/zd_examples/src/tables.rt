@@ -22,9 +22,12 @@ pub fn wrong_map_examples()
     ensures twice { bad_chunk small fresh_layout [] 0 (only 2 ∷ only 2 ∷ []) ≡ Some 1 }
     ensures apart { bad_chunk small fresh_layout [] 0
         (unmapped ∷ only 3 ∷ unmapped ∷ only 3 ∷ []) ≡ Some 3 }
-    ensures buffer_is_zone { bad_chunk small fresh_layout [] 0 (buffered 6 4 ∷ only 4 ∷ []) ≡ Some 1 }
-    ensures zone_is_buffer { bad_chunk small fresh_layout [] 0 (only 4 ∷ buffered 6 4 ∷ []) ≡ Some 1 }
-    ensures one_buffer { bad_chunk small fresh_layout [] 0 (buffered 6 4 ∷ buffered 7 4 ∷ []) ≡ Some 1 }
+    ensures buffer_is_zone { bad_chunk small fresh_layout [] 0
+        (buffered 6 4 ∷ only 4 ∷ []) ≡ Some 1 }
+    ensures zone_is_buffer { bad_chunk small fresh_layout [] 0
+        (only 4 ∷ buffered 6 4 ∷ []) ≡ Some 1 }
+    ensures one_buffer { bad_chunk small fresh_layout [] 0
+        (buffered 6 4 ∷ buffered 7 4 ∷ []) ≡ Some 1 }
     ensures sequential { bad_chunk small fresh_layout [] 0 (buffered 6 7 ∷ []) ≡ Some 0 }
     ensures conventional { bad_chunk small fresh_layout [] 0 (buffered 3 4 ∷ []) ≡ Some 0 }
     ensures alone { bad_chunk small fresh_layout [] 0 (buffer_alone 4 ∷ []) ≡ Some 0 }
@@ -34,7 +37,8 @@ pub fn wrong_map_examples()
 /// Bitmaps whose bits are all right.
 pub fn right_bit_examples()
     ensures below { bad_bit small (λ z. 16) (with_bits (only 6 ∷ []) 6 (3 ∷ [])) ≡ None }
-    ensures conventional { bad_bit small (λ z. 0) (with_bits (only 2 ∷ []) 2 (0 ∷ 0x80 ∷ [])) ≡ None }
+    ensures conventional { bad_bit small (λ z. 0)
+        (with_bits (only 2 ∷ []) 2 (0 ∷ 0x80 ∷ [])) ≡ None }
     ensures beyond { bad_bit small (λ z. 0) (with_bits [] 3 (0 ∷ 0 ∷ 1 ∷ [])) ≡ None }
     ensures parted { bad_bit small (λ z. 8) (buffered_tables 2 1) ≡ None }
     ensures other_chunk { bad_bit small (λ z. 8) (buffered_tables 1 0) ≡ None }

@@ -1,13 +1,13 @@
 -- Bitmaps in which no bit is bad follow the rules, and in those that follow them none is.
 use Rattle.std.proofs.Common.{◌≡◌, ℕ, zero, suc, ◌+◌, ◌*◌, ◌<◌, ◌≤◌, ◌⊎◌, Bool, true, false, cond, not}
-use Rattle.std.proofs.Common.{◌&&◌, ◌||◌, List, [], ◌∷◌, ◌++◌, map, get_or, refl, sym, ap, ◌∙◌, arith}
+use Rattle.std.proofs.Common.{◌&&◌, ◌||◌, List, [], ◌∷◌, map, get_or, refl, sym, ap, ◌∙◌, arith}
 use Rattle.std.proofs.Common.{inl, inr, Some, None, Option, eqb, ltb, leb}
 use Rattle.std.specs.Prelude.{find, IsTrue}
-use Rattle.std.specs.Option.{option_map_or, option_or}
+use Rattle.std.specs.Option.{option_or}
 use Rattle.std.specs.List.{list_all, flat_map, range_with_len}
 use borrow.Author.Tests.{eq-eqb, eqb-true, le-leb, leb-true, ltb-true, ltb-false}
 use Rattle.std.proofs.lemmas.List.Folds.{list_any-append, find-append}
-use Rattle.zd_base.specs.Geometry.{Shape, zone_count, is_conventional}
+use Rattle.zd_base.specs.Geometry.{Shape, zone_count}
 use Rattle.zd_base.specs.declared.layout.Layout.{Layout}
 use Rattle.zd_model.specs.Tables.{Tables, Names, MapFollowsRules, BitsFollowRules}
 use Rattle.zd_model.specs.Tables.{entry_of, is_valid, zones_of}
@@ -26,9 +26,9 @@ none_of (Some x) p h = cc
 
 first_or_more : (b x : ℕ) → b ≤ x → (b ≡ x) ⊎ (b + 1 ≤ x)
 first_or_more b x low = elim (eqb b x) as (λ t. eqb b x ≡ t → (b ≡ x) ⊎ (b + 1 ≤ x)) [
-    | true ↦ λ e. inl (eqb-true b x e)
-    | false ↦ λ e. inr (let apart : b ≡ x → ⊥ = (λ same. apart_bools (eqb b x) (eq-eqb b x same) e) in omega arith)
-  ] refl
+  | true ↦ λ e. inl (eqb-true b x e)
+  | false ↦ λ e. inr (let apart : b ≡ x → ⊥ = (λ same. apart_bools (eqb b x) (eq-eqb b x same) e) in omega arith)
+] refl
 
 module _ (q : ℕ × ℕ → Bool) (m : ℕ) where
   row_fails : (z b n : ℕ) → find q (map (λ x. (z, x)) (range_with_len b n)) ≡ None → (x : ℕ) → b ≤ x → x < b + n → q (z, x) ≡ false

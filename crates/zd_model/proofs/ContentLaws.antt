@@ -1,6 +1,6 @@
 -- What well-formed images hold: sectors of 512 bytes, and the same where the images hold the same.
-use Rattle.std.proofs.Common.{◌≡◌, ℕ, zero, suc, ◌+◌, ◌-◌, ◌*◌, ◌/◌, ◌%◌, ◌<◌, ◌≤◌, Bool, true, false, cond}
-use Rattle.std.proofs.Common.{List, [], ◌∷◌, map, refl, sym, ap, ap₂, ◌∙◌, arith, inl, inr, get_or}
+use Rattle.std.proofs.Common.{◌≡◌, ℕ, ◌+◌, ◌-◌, ◌*◌, ◌/◌, ◌%◌, ◌<◌, ◌≤◌, Bool, true, false, cond}
+use Rattle.std.proofs.Common.{List, refl, sym, ap, ap₂, ◌∙◌, arith, inl, inr}
 use Rattle.std.proofs.Common.{Option, Some, None, subst, length, IsNone}
 use Rattle.std.proofs.Math.Nat.{div-mul-le_self, mul-le-mul_right}
 use Rattle.std.proofs.lemmas.Nat.{le-div}
@@ -8,7 +8,7 @@ use Rattle.std.proofs.lemmas.Bool.{cases_lt}
 use Rattle.std.proofs.lemmas.List.FromFn.{length-map-range_with_len, get_or-map-range_with_len}
 use Rattle.std.specs.Prelude.{IsTrue, All}
 use Rattle.std.specs.Option.{option_map_or}
-use Rattle.std.specs.List.{concat, range_with_len}
+use Rattle.std.specs.List.{concat}
 use Rattle.zd_base.specs.Geometry.{Shape, IsShape, zone_count, per}
 use Rattle.zd_base.specs.Layout.{Fits, set_zones, rounded_up}
 use Rattle.zd_model.specs.Bytes.{IsSector, zero_sector}
@@ -110,10 +110,10 @@ module _ (g : Shape) (h k : ℕ → ℕ) (s t : ℕ → ℕ → List ℕ) (c : C
   same_bits : (zone : ℕ) → zone < zone_count g → bits_in (image_at g k t) c zone ≡ bits_in (image_at g h s) c zone
   same_bits zone low =
       ap concat (same_map (bitmap_block (image_at g k t) c zone) (bitmap_block (image_at g h s) c zone) 0 (per g) (λ i from inside. (
-        let place = bitmap_place zone (zone_count g) (per g) i low (omega arith) in
-        let bits = fits.bitmaps in
-        let set = fits.set in
-        same_set_block (1 + c.head.layout.map_blocks + zone * per g + i) (omega arith))))
+      let place = bitmap_place zone (zone_count g) (per g) i low (omega arith) in
+      let bits = fits.bitmaps in
+      let set = fits.set in
+      same_set_block (1 + c.head.layout.map_blocks + zone * per g + i) (omega arith))))
 
   same_tables : tables_of (image_at g k t) c ≡ tables_of (image_at g h s) c
   same_tables =
@@ -132,12 +132,12 @@ well_formed_of_same old new c image shape same well = record {
   is_chosen = chosen_of_same old new image shape same ∙ well.is_chosen;
   layout = subst (λ (g : Shape). Fits g c.head.layout) (sym same.geometry) well.layout;
   no_other_magic = λ bad n some low. (
-    let size : set_zones new.geometry c.head.layout ≡ set_zones old.geometry c.head.layout = ap (λ (g : Shape). set_zones g c.head.layout) same.geometry in
-    let first = chosen_first old c well.is_chosen in
-    let room : 2 * set_zones old.geometry c.head.layout < old.geometry.conv = well.layout.conventional_data in
-    let blocks = shape.size.least in
-    ap has_magic (same_block old new image same (c.first + n) 0 (omega arith) (omega arith))
-    ∙ well.no_other_magic (subst (λ (o : Option Super). IsNone o) good bad) n some (omega arith));
+      let size : set_zones new.geometry c.head.layout ≡ set_zones old.geometry c.head.layout = ap (λ (g : Shape). set_zones g c.head.layout) same.geometry in
+      let first = chosen_first old c well.is_chosen in
+      let room : 2 * set_zones old.geometry c.head.layout < old.geometry.conv = well.layout.conventional_data in
+      let blocks = shape.size.least in
+      ap has_magic (same_block old new image same (c.first + n) 0 (omega arith) (omega arith))
+      ∙ well.no_other_magic (subst (λ (o : Option Super). IsNone o) good bad) n some (omega arith));
   map = subst (λ (g : Shape). MapFollowsRules g c.head.layout (tables_of new c).entries) (sym same.geometry) (subst (λ (t : Tables). MapFollowsRules old.geometry c.head.layout t.entries) (sym tables) well.map);
   bits = subst (λ (g : Shape). BitsFollowRules g new.held (tables_of new c)) (sym same.geometry) (subst (BitsFollowRules old.geometry new.held) (sym tables) bits);
 }

@@ -1,6 +1,6 @@
 -- Images that hold the same have the same chosen set.
-use Rattle.std.proofs.Common.{◌≡◌, ℕ, zero, suc, ◌+◌, ◌-◌, ◌*◌, ◌/◌, ◌<◌, ◌≤◌, Bool, true, false}
-use Rattle.std.proofs.Common.{List, [], ◌∷◌, ◌++◌, ◌&&◌, map, refl, sym, ap, ap₂, ◌∙◌, arith, cond}
+use Rattle.std.proofs.Common.{◌≡◌, ℕ, zero, suc, ◌+◌, ◌-◌, ◌*◌, ◌<◌, ◌≤◌, Bool, true, false}
+use Rattle.std.proofs.Common.{List, ◌∷◌, ◌++◌, ◌&&◌, map, refl, sym, ap, ap₂, ◌∙◌, arith, cond}
 use Rattle.std.proofs.Common.{Option, Some, None, ltb, eqb, subst}
 use borrow.Author.Tests.{ltb-true, eqb-true}
 use Rattle.std.specs.Prelude.{find, option_and_then, option_map}

@@ -1,8 +1,8 @@
 -- A sector of a pattern, and one of zeros, are 512 bytes.
 use Rattle.std.proofs.Common.{◌≡◌, ℕ, zero, suc, ◌+◌, ◌*◌, ◌<◌, List, [], ◌∷◌, ◌++◌, length}
-use Rattle.std.proofs.Common.{replicate, get_or, refl, ap, ap₂, ◌∙◌, arith, All, map}
+use Rattle.std.proofs.Common.{replicate, refl, ◌∙◌, arith, All}
 use Rattle.std.specs.Int.{w64, to_le_bytes}
-use Rattle.std.specs.List.{AllByRecursion, flat_map, concat, range_with_len}
+use Rattle.std.specs.List.{AllByRecursion, flat_map, range_with_len}
 use Rattle.std.proofs.lemmas.List.{length-append, length-replicate}
 use Rattle.zd_model.specs.Bytes.{IsSector, zero_sector}
 use Rattle.zd_model.specs.Plain.{pattern, word}

@@ -1,6 +1,6 @@
 -- A history is parted at the last flush that was acknowledged.
 use Rattle.std.proofs.Common.{◌≡◌, ℕ, Bool, true, false, cond, ◌||◌, List, [], ◌∷◌, ◌++◌}
-use Rattle.std.proofs.Common.{Option, Some, None, refl, ap, ap₂, ◌∙◌, sym}
+use Rattle.std.proofs.Common.{Option, Some, None, refl, ap, ◌∙◌, sym}
 use Rattle.std.specs.Prelude.{filter}
 use Rattle.std.specs.List.{list_any, last_or}
 use Rattle.zd_model.specs.History.{HistoryEntry}

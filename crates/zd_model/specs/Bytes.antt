@@ -1,5 +1,5 @@
 -- Numbers, sectors and blocks in lists of bytes. A sector and a block are lists of bytes.
-use Rattle.std.specs.Prelude.{◌≡◌, ◌<◌, ℕ, ◌+◌, ◌*◌, ◌/◌, ◌-◌, List, ◌++◌, length, map, take, drop}
+use Rattle.std.specs.Prelude.{◌≡◌, ◌<◌, ℕ, ◌+◌, ◌*◌, ◌/◌, List, ◌++◌, length, map, take, drop}
 use Rattle.std.specs.Prelude.{replicate, slice_range, slice_index, All}
 use Rattle.std.specs.Int.{w32, w64, from_le_bytes}
 use Rattle.std.specs.List.{range_with_len}

@@ -1,5 +1,4 @@
 -- Replies and entries as definitions see them: without the room of their bytes.
-use Rattle.std.specs.Prelude.{ℕ}
 use Rattle.zd_model.specs.Plain.{Answer}
 use Rattle.zd_model.specs.Plain.{Answer as answers}
 use Rattle.zd_model.specs.History.{HistoryEntry}

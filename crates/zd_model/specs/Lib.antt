@@ -17,4 +17,3 @@ pub mod Text
 pub mod Script
 pub mod Report
 pub mod Laws
-pub mod Examples

@@ -5,7 +5,7 @@ use Rattle.zd_examples.proofs.histories.fault_examples.Goals as goal
 pub returns-clause-reads : goal.returns-clause-reads
 returns-clause-reads c = record {
   answers =
-    (inl refl, (inr (refl, refl, tt), (inl refl, (inl refl, (inl refl, (inl refl, tt))))));
+      (inl refl, (inr (refl, refl, tt), (inl refl, (inl refl, (inl refl, (inl refl, tt))))));
   in_time = (lit≤ tt, (lit≤ tt, (lit≤ tt, (lit≤ tt, (lit≤ tt, tt)))));
 }
 

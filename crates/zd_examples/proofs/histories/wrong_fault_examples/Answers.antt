@@ -1,4 +1,4 @@
-use Rattle.std.proofs.Common.{◌≡◌, inl, inr, Bool, true, false, arith}
+use Rattle.std.proofs.Common.{inl, inr}
 use Rattle.zd_examples.proofs.histories.wrong_fault_examples.Goals as goal
 
 pub returns-clause-after_write : goal.returns-clause-after_write

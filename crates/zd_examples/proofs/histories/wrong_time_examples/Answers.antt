@@ -1,4 +1,4 @@
-use Rattle.std.proofs.Common.{◌≤◌, ◌+◌, arith}
+use Rattle.std.proofs.Common.{◌≤◌, arith}
 use Rattle.zd_examples.proofs.histories.wrong_time_examples.Goals as goal
 
 pub returns-clause-falls : goal.returns-clause-falls

@@ -1,4 +1,4 @@
-use Rattle.std.proofs.Common.{◌<◌, ◌≤◌, ◌+◌, ◌*◌, arith}
+use Rattle.std.proofs.Common.{◌<◌, ◌≤◌, arith}
 use Rattle.zd_examples.proofs.layouts.misfit_examples.Goals as goal
 
 pub returns-clause-no_reserved : goal.returns-clause-no_reserved

@@ -1,11 +1,10 @@
-use Rattle.std.proofs.Common.{◌≡◌, ◌≤◌, ◌++◌, List, ℕ, [], ◌∷◌, codes, refl, arith, lit≤}
+use Rattle.std.proofs.Common.{◌≤◌, List, ℕ, [], ◌∷◌, codes, refl, arith, lit≤}
 use Rattle.zd_model.specs.declared.requests.What.TheVariants.{Flush}
 use Rattle.zd_model.specs.declared.requests.Request.{Request}
 use Rattle.zd_model.specs.Script.{Begins, line_text}
 use Rattle.zd_model.specs.Script.BreaksRule.{form}
 use Rattle.zd_model.specs.Script.Refuses.{line}
 use Rattle.zd_model.specs.Text.{numeral}
-use Rattle.zd_model.proofs.TextLaws.{IsDigit}
 use Rattle.zd_examples.proofs.Forms.{no_small, no_large, third_digit}
 use Rattle.zd_examples.proofs.scripts.form_examples.Goals as goal
 

@@ -1,4 +1,4 @@
-use Rattle.std.proofs.Common.{◌≡◌, ◌<◌, ◌≤◌, ℕ, List, length, arith, lit≤, subst}
+use Rattle.std.proofs.Common.{◌≡◌, ◌≤◌, ℕ, List, length, arith, lit≤}
 use Rattle.zd_model.specs.Script.{Refuses}
 use Rattle.zd_model.specs.Script.Refuses.{size, line}
 use Rattle.zd_model.specs.declared.texts.BadLine.{BadLine}
@@ -29,3 +29,10 @@ no_line bytes n why long none (line plan rest few begins breaks) = omega arith
 
 pub returns-clause-bytes_most : goal.returns-clause-bytes_most
 returns-clause-bytes_most c bytes why long refused = no_line bytes 0 why long (omega arith) refused
+
+pub returns-clause-requests_most : goal.returns-clause-requests_most
+returns-clause-requests_most c plan long few = record {
+  requests = omega arith;
+  moved = few.moved;
+  discarded = few.discarded;
+}

@@ -1,8 +1,7 @@
-use Rattle.std.proofs.Common.{refl, sym, ◌∙◌}
+use Rattle.std.proofs.Common.{sym, ◌∙◌}
 use Rattle.std.proofs.lemmas.List.{append-nil}
 use Rattle.std.specs.List.{flat_map}
 use Rattle.zd_model.specs.Script.{line_text}
-use Rattle.zd_model.specs.Text.{numeral}
 use Rattle.zd_model.proofs.RefusalLaws.{one_refusal, script_stands}
 use Rattle.zd_model.proofs.LineLaws.{one_plan}
 use Rattle.zd_model.proofs.ReportLaws.{same_output, same_report, report_output, tells_status}
