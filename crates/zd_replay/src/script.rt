@@ -1,6 +1,6 @@
 //! Scripts: their bytes from a source, and the plan that these write.
 
-ghost use Rattle.std.specs.Prelude.{◌≡◌, ◌≢◌, ◌<◌, ◌≤◌, ◌++◌, ℕ, List, length, vec_len, IfOk, IfSome, IfNone};
+ghost use Rattle.std.specs.Prelude.{◌≡◌, ◌+◌, ◌≢◌, ◌<◌, ◌≤◌, ◌++◌, ℕ, List, length, vec_len, IfOk, IfSome, IfNone};
 ghost use Rattle.zd_base.specs.Faults.{Rose};
 ghost use Rattle.zd_disk.specs.Told.{WhereTold};
 ghost use Rattle.zd_model.specs.Script.{HasNumbers, line_text};
@@ -82,6 +82,8 @@ pub fn read_all<S: Source>(alloc: Global, from: &mut S) -> Result<Vec<u8>, Scrip
     ensures ok { IfOk result (λ v. WhereTold (S.left from.old) (λ bytes. v.items ≡ bytes)) }
     ensures not_reads { result ≡ Err ScriptFault.NotReads →
         WhereTold (S.left from.old) IsNoScriptOfReads }
+    ensures stops { result ≡ Err ScriptFault.NotReads → WhereTold (S.left from.old) (λ bytes.
+        WhereTold (S.left from.new) (λ rest. length bytes ≡ length rest + 67_108_865)) }
     ensures source { result ≡ Err ScriptFault.Source → Rose (S.faults from.old) (S.faults from.new) }
     ensures later { S.faults from.old ≤ S.faults from.new }
 {

@@ -5,9 +5,8 @@
 #![tactic(auto)]
 
 use std::fs::File;
-use std::io;
 use std::process::ExitCode;
-use std::{env, fs};
+use std::{env, fs, io};
 use zd_disk::FileDisk;
 use zd_ports::{NoSource, Source, StdSink, StdSource};
 use zd_replay::{paths_alone, replay_alone};
@@ -21,7 +20,12 @@ fn disk_at(rt: &HostRuntime, image: Option<&str>) -> FileDisk<File> {
 }
 
 /// Runs the script over the disk, and answers the exit status.
-fn run<S: Source>(rt: &HostRuntime, words: &[String], disk: FileDisk<File>, mut script: S) -> ExitCode {
+fn run<S: Source>(
+    rt: &HostRuntime,
+    words: &[String],
+    disk: FileDisk<File>,
+    mut script: S,
+) -> ExitCode {
     let mut out = StdSink::new(io::writer(rt));
     let (status, _) = replay_alone(rt.alloc(), words, disk, &mut script, &mut out);
     ExitCode::from(status.0)
@@ -45,7 +49,9 @@ fn no_memory(rt: &HostRuntime) -> ExitCode {
 fn main(rt: HostRuntime) -> ExitCode {
     let words = match words(&rt) {
         Ok(words) => words,
-        Err(_) => return no_memory(&rt),
+        Err(error) if error.kind() == io::ErrorKind::OutOfMemory => return no_memory(&rt),
+        // A word that is no text is no command, as no words are none.
+        Err(_) => Vec::new(rt.alloc()),
     };
     let Ok(paths) = paths_alone(&words) else {
         return no_memory(&rt);
