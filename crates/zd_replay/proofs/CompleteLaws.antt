@@ -1,5 +1,5 @@
 -- Where nothing is wrong and nothing fails, a run ends with status 0 or 7.
-use Rattle.std.proofs.Common.{◌≡◌, ◌⊎◌, ℕ, List, Option, Some, None, sym, ap, ◌∙◌, subst, inl, inr, arith}
+use Rattle.std.proofs.Common.{◌≡◌, ◌⊎◌, ℕ, List, Option, Some, None, sym, ap, ◌∙◌, subst, inl, inr, arith, refl}
 use Rattle.zd_base.specs.Layout.{Fits}
 use Rattle.zd_base.specs.declared.numbers.Why.TheVariants as whys
 use Rattle.zd_model.specs.Image.{Image}
@@ -13,7 +13,7 @@ use Rattle.zd_model.specs.declared.texts.Outcome.TheVariants as outcomes
 use Rattle.zd_model.specs.declared.texts.NoVolume.{NoVolume}
 use Rattle.zd_model.specs.declared.texts.NoVolume.TheVariants.{NoSuperBlock, Layout}
 use Rattle.zd_replay.specs.Opening.{Opens, IsWritten, RefusesHead}
-use Rattle.zd_replay.specs.Replay.{Ends, HasStatus, IsRight, Reports}
+use Rattle.zd_replay.specs.Replay.{Comes, Ends, HasStatus, IsDecided, IsRight, Reports}
 
 one_head : (a b : Super) → ◌≡◌ {A = Option Super} (Some a) (Some b) → a ≡ b
 one_head a b e = cc
@@ -22,12 +22,12 @@ no_head : (a : Super) → ◌≡◌ {A = Option Super} None (Some a) → ⊥
 no_head a e = cc
 
 -- a volume that can be opened isn't refused
-never_refused : (kind : NoVolume) (image : Image) → RefusesHead kind image.geometry (good_super image 0) → Opens image → ⊥
+pub never_refused : (kind : NoVolume) (image : Image) → RefusesHead kind image.geometry (good_super image 0) → Opens image → ⊥
 never_refused NoSuperBlock image none o = no_head o.0 (sym none ∙ o.1.good)
 never_refused Layout image bad o = bad.2 (subst (λ (s : Super). Fits image.geometry s.layout) (one_head o.0 bad.0 (sym o.1.good ∙ bad.1)) o.1.fits)
 
 -- and nobody wrote it
-never_written : (image : Image) → IsWritten image → Opens image → ⊥
+pub never_written : (image : Image) → IsWritten image → Opens image → ⊥
 never_written image w o =
     let same : o.0 ≡ w.0 = one_head o.0 w.0 (sym o.1.good ∙ w.2.good) in
     w.3.entry (o.2 w.1 (omega arith) (rw same w.3.below))
@@ -55,3 +55,41 @@ complete words bytes image status faults now before after whole r right no_devic
       | inl wrong ↦ absurd (wrong.0 right.command)
       | inr ends ↦ left_over bytes image status words right no_device no_source no_sink r.outcome ends.1 r.answers
     ]
+
+refused_or_written : (kind : NoVolume) (image : Image) → RefusesHead kind image.geometry (good_super image 0) → IsWritten image → ⊥
+refused_or_written NoSuperBlock image none w = no_head w.0 (sym none ∙ w.2.good)
+refused_or_written Layout image bad w = bad.2 (subst (λ (s : Super). Fits image.geometry s.layout) (one_head w.0 bad.0 (sym w.2.good ∙ bad.1)) w.2.fits)
+
+one_kind : (k l : NoVolume) (image : Image) → RefusesHead k image.geometry (good_super image 0) → RefusesHead l image.geometry (good_super image 0) → k ≡ l
+one_kind NoSuperBlock NoSuperBlock image h i = refl
+one_kind NoSuperBlock Layout image h i = absurd (no_head i.0 (sym h ∙ i.1))
+one_kind Layout NoSuperBlock image h i = absurd (no_head h.0 (sym i ∙ h.1))
+one_kind Layout Layout image h i = refl
+
+-- of the outcomes that no count of faults and no memory decide, one comes
+one_ending : (bytes : List ℕ) (image : Image) (o p : Outcome) → IsDecided o → IsDecided p → Ends bytes image o → Ends bytes image p → o ≡ p
+one_ending bytes image outcomes.Usage p d e h k = absurd h
+one_ending bytes image o outcomes.Usage d e h k = absurd k
+one_ending bytes image outcomes.Source p d e h k = absurd d
+one_ending bytes image o outcomes.Source d e h k = absurd e
+one_ending bytes image (outcomes.Ended (endings.Stopped why)) p d e h k = absurd d
+one_ending bytes image o (outcomes.Ended (endings.Stopped why)) d e h k = absurd e
+one_ending bytes image outcomes.NotBuilt outcomes.NotBuilt d e h k = refl
+one_ending bytes image outcomes.NotBuilt (outcomes.NoVolume l) d e (inl none) k = absurd (none k.0.0 k.0.1)
+one_ending bytes image outcomes.NotBuilt (outcomes.NoVolume l) d e (inr w) k = absurd (refused_or_written l image k.1 w.1)
+one_ending bytes image outcomes.NotBuilt (outcomes.Ended endings.Ok) d e (inl none) k = absurd (none k.0.0 k.0.1)
+one_ending bytes image outcomes.NotBuilt (outcomes.Ended endings.Ok) d e (inr w) k = absurd (never_written image w.1 k.1)
+one_ending bytes image (outcomes.NoVolume l) outcomes.NotBuilt d e h (inl none) = absurd (none h.0.0 h.0.1)
+one_ending bytes image (outcomes.NoVolume l) outcomes.NotBuilt d e h (inr w) = absurd (refused_or_written l image h.1 w.1)
+one_ending bytes image (outcomes.NoVolume l) (outcomes.NoVolume m) d e h k = ap outcomes.NoVolume (one_kind l m image h.1 k.1)
+one_ending bytes image (outcomes.NoVolume l) (outcomes.Ended endings.Ok) d e h k = absurd (never_refused l image h.1 k.1)
+one_ending bytes image (outcomes.Ended endings.Ok) outcomes.NotBuilt d e h (inl none) = absurd (none h.0.0 h.0.1)
+one_ending bytes image (outcomes.Ended endings.Ok) outcomes.NotBuilt d e h (inr w) = absurd (never_written image w.1 h.1)
+one_ending bytes image (outcomes.Ended endings.Ok) (outcomes.NoVolume m) d e h k = absurd (never_refused m image k.1 h.1)
+one_ending bytes image (outcomes.Ended endings.Ok) (outcomes.Ended endings.Ok) d e h k = refl
+
+pub one_outcome : (words : List (List ℕ)) (bytes : List ℕ) (image : Image) (o p : Outcome) → IsDecided o → IsDecided p → Comes words bytes image o → Comes words bytes image p → o ≡ p
+one_outcome words bytes image o p d e (inl h) (inl k) = h.1 ∙ sym k.1
+one_outcome words bytes image o p d e (inl h) (inr k) = absurd (h.0 k.0)
+one_outcome words bytes image o p d e (inr h) (inl k) = absurd (k.0 h.0)
+one_outcome words bytes image o p d e (inr h) (inr k) = one_ending bytes image o p d e h.1 k.1

@@ -48,21 +48,6 @@ nothing image plan whole none = record {
   all = λ w. absurd (none w);
 }
 
--- status 0 is that of a run in which all was done
-done : (outcome : Outcome) → status_of outcome ≡ 0 → outcome ≡ outcomes.Ended endings.Ok
-done (outcomes.Ended endings.Ok) e = refl
-done (outcomes.Ended (endings.Stopped whys.Device)) e = absurd (omega arith)
-done (outcomes.Ended (endings.Stopped whys.Memory)) e = absurd (omega arith)
-done (outcomes.Ended (endings.Stopped whys.Generation)) e = absurd (omega arith)
-done outcomes.Usage e = absurd (omega arith)
-done (outcomes.NoVolume kind) e = absurd (omega arith)
-done outcomes.Source e = absurd (omega arith)
-done outcomes.NotBuilt e = absurd (omega arith)
-
-pub done_where : (outcome : Outcome) (status : ℕ) → HasStatus outcome status → status ≡ 0 → outcome ≡ outcomes.Ended endings.Ok
-done_where outcome status (inl same) zero_is = done outcome (sym same ∙ zero_is)
-done_where outcome status (inr failed) zero_is = failed.1
-
 not_memory : no_memory ≡ outcomes.Ended endings.Ok → ⊥
 not_memory e = let f = ap status_of e in omega arith
 
@@ -85,7 +70,7 @@ reports words bytes image plan history outcome status faults now before after wh
       answers = t.answers;
       entries = elim t.which [
         | inl same ↦ told_history same.0 same.1
-        | inr same ↦ subst (λ (h : List HistoryEntry). IsHistory image plan h (status ≡ 0)) (sym same.0) (nothing image plan (status ≡ 0) (λ zero_is. not_memory (sym same.1 ∙ done_where t.ending status t.answers zero_is)))
+        | inr same ↦ subst (λ (h : List HistoryEntry). IsHistory image plan h (t.ending ≡ outcomes.Ended endings.Ok)) (sym same.0) (nothing image plan (t.ending ≡ outcomes.Ended endings.Ok) (λ e. not_memory (sym same.1 ∙ e)))
       ];
       counted = record {
         later = later;
@@ -98,10 +83,10 @@ reports words bytes image plan history outcome status faults now before after wh
       told = t.taken;
     }
   where
-    told_history : t.entries ≡ history → t.ending ≡ outcome → IsHistory image plan t.entries (status ≡ 0)
+    told_history : t.entries ≡ history → t.ending ≡ outcome → IsHistory image plan t.entries (t.ending ≡ outcomes.Ended endings.Ok)
     told_history same ending =
         let h = subst (λ (h : List HistoryEntry). IsHistory image plan h (outcome ≡ outcomes.Ended endings.Ok)) (sym same) entries in
-        record { legal = h.legal; ordered = h.ordered; all = λ zero_is. h.all (sym ending ∙ done_where t.ending status t.answers zero_is) }
+        record { legal = h.legal; ordered = h.ordered; all = λ e. h.all (sym ending ∙ e) }
 
 -- the report of a run that ended before anything was entered
 pub reports_alone : (words : List (List ℕ)) (bytes : List ℕ) (image : Image) (outcome : Outcome) (status faults now : ℕ) (before : List ℕ) (after : Option (List ℕ)) (whole : Type 0)
@@ -112,10 +97,10 @@ reports_alone words bytes image outcome status faults now before after whole cau
   plan = [];
   history = [];
   outcome = outcome;
-  planned = inr refl;
+  planned = inr (refl, undone);
   cause = cause;
   answers = answers;
-  entries = nothing image [] (status ≡ 0) (λ zero_is. undone (done_where outcome status answers zero_is));
+  entries = nothing image [] (outcome ≡ outcomes.Ended endings.Ok) undone;
   counted = record { later = later; rise = λ small. omega arith; none = λ faultless. refl };
   told = taken;
 }

@@ -47,6 +47,19 @@ Ends bytes image (outcomes.Ended (endings.Stopped whys.Generation)) = ⊥
 abbrev pub Comes : List (List ℕ) → List ℕ → Image → Outcome → Type 0
 Comes words bytes image outcome = ((IsCommand words → ⊥) × (outcome ≡ outcomes.Usage)) ⊎ (IsCommand words × Ends bytes image outcome)
 
+-- the outcomes that words, script and image decide, and no count of faults and no memory
+abbrev pub IsDecided : Outcome → Type 0
+IsDecided outcomes.Usage = Unit {0}
+IsDecided outcomes.NotBuilt = Unit {0}
+IsDecided (outcomes.NoVolume kind) = Unit {0}
+IsDecided (outcomes.Ended endings.Ok) = Unit {0}
+IsDecided outcome = ⊥
+
+-- one of them comes at most: so each comes exactly where its cause holds, but for faults and memory
+abbrev pub OneOutcome : Type 0
+OneOutcome = (words : List (List ℕ)) (bytes : List ℕ) (image : Image) (o p : Outcome) →
+    IsDecided o → IsDecided p → Comes words bytes image o → Comes words bytes image p → o ≡ p
+
 -- the status is that of the outcome; only where all was done may it be 6 instead
 abbrev pub HasStatus : Outcome → ℕ → Type 0
 HasStatus outcome status = (status ≡ status_of outcome) ⊎ ((status ≡ 6) × (outcome ≡ outcomes.Ended endings.Ok))
@@ -108,16 +121,19 @@ pub record AreCounted (history : List HistoryEntry) (before after : ℕ) : Type 
   pub rise : after < 2 ^ 64 - 1 → fault_count history + before ≤ after
   pub none : IsFaultless before after → fault_count history ≡ 0
 
+-- a run that ended before a plan was run: nothing was entered, and not all was done
+abbrev pub EndsBefore : List HistoryEntry → Outcome → Type 0
+EndsBefore history outcome = (history ≡ []) × (outcome ≡ outcomes.Ended endings.Ok → ⊥)
+
 -- there is a history and an outcome, and what the sink took is their text
 pub record Reports (words : List (List ℕ)) (bytes : List ℕ) (image : Image) (status faults now : ℕ) (before : List ℕ) (after : Option (List ℕ)) (whole : Type 0) : Type 0 where
   pub plan : List Request
   pub history : List HistoryEntry
   pub outcome : Outcome
-  -- where the bytes are no script that can be run, nothing is
-  pub planned : IsScriptOfReads bytes plan ⊎ (history ≡ [])
+  pub planned : IsScriptOfReads bytes plan ⊎ EndsBefore history outcome
   pub cause : Comes words bytes image outcome
   pub answers : HasStatus outcome status
-  pub entries : IsHistory image plan history (status ≡ 0)
+  pub entries : IsHistory image plan history (outcome ≡ outcomes.Ended endings.Ok)
   pub counted : AreCounted history faults now
   pub told : Takes before after (output history outcome) whole
 

@@ -2,6 +2,7 @@
 #![tactic(auto)]
 
 mod alone;
+mod laws;
 mod number;
 mod report;
 mod run;
@@ -10,4 +11,5 @@ mod tables;
 mod words;
 
 pub use alone::replay_alone;
+pub use laws::one_outcome;
 pub use words::paths_alone;
