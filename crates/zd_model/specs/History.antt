@@ -77,9 +77,11 @@ pub record Mark : Type 0 where
   pub piece : ℕ
   pub what : What
 
+-- that of a piece
 abbrev pub mark_of_piece : Piece → Mark
 mark_of_piece p = record { caller = p.caller; request = p.request; piece = p.piece; what = p.what }
 
+-- that of an entry
 abbrev pub mark_of_entry : HistoryEntry → Mark
 mark_of_entry e = record { caller = e.caller; request = e.request; piece = e.piece; what = e.what }
 

@@ -42,10 +42,11 @@ second_super image n = option_and_then
 abbrev pub has_magic : List ℕ → Bool
 has_magic block = u32_at block 0 == 0x445A4244
 
--- set 0 in zone 0, set 1 in zone n
+-- set 0, which begins in zone 0, where set 1 begins in zone n
 abbrev pub first_set : ℕ → Super → Chosen
 first_set n s = record { set = 0; first = 0; other = n; head = s }
 
+-- set 1
 abbrev pub second_set : ℕ → Super → Chosen
 second_set n t = record { set = 1; first = n; other = 0; head = t }
 
