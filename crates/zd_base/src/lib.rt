@@ -9,3 +9,6 @@ mod numbers;
 pub use geometry::{BadGeometry, Geometry, Kind};
 pub use layout::Layout;
 pub use numbers::{BLOCK, ChunkNo, Failed, Memory, SECTOR, Status, Why, ZoneNo};
+
+#[cfg(test)]
+mod tests;
