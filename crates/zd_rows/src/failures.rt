@@ -28,11 +28,10 @@ fn failing(
 /// The next run finds that the disk answers again.
 #[test]
 fn a_disk_that_fails_in_opening_ends_the_run(rt: HostRuntime) -> Result<(), Fail> {
-    let front = Some(ZoneNo(0));
     for (call, zone, nth) in [
         (DeviceCall::Geometry, None, 1),
-        (DeviceCall::Read, front, 1),
-        (DeviceCall::Read, front, 2),
+        (DeviceCall::Read, Some(ZoneNo(0)), 1),
+        (DeviceCall::Read, Some(ZoneNo(0)), 2),
     ] {
         let disk = failing(&rt, call, zone, nth)?;
         let disk = expect(&rt, disk, "r 0 0 1;", "end 4 device;", 4)?;
