@@ -20,7 +20,7 @@ use Rattle.zd_model.specs.declared.metadata.Super.{Super}
 use Rattle.zd_model.specs.declared.requests.What.{What}
 use Rattle.zd_model.specs.declared.requests.What.TheVariants.{Read, Write, Discard, Flush}
 use Rattle.zd_model.specs.declared.requests.Piece.{Piece}
-use Rattle.zd_replay.specs.Opening.{first_set, first_entry, base_of, unmapped, AreUnmapped, IsOpened}
+use Rattle.zd_replay.specs.Opening.{front_set, first_entry, base_of, unmapped, AreUnmapped, IsOpened}
 use Rattle.zd_replay.specs.Run.{zeros_for}
 use Rattle.zd_replay.specs.Reads.{Reads}
 use Rattle.zd_replay.proofs.PieceLaws.{IsRead, inside}
@@ -39,7 +39,7 @@ read-replicate zero x k = refl
 read-replicate (suc n) x zero = refl
 read-replicate (suc n) x (suc k) = read-replicate n x k
 
-entries_are : (image : Image) (head : Super) → AreUnmapped image 0 head.layout.chunks → (tables_of image (first_set image head)).entries ≡ replicate head.layout.chunks unmapped
+entries_are : (image : Image) (head : Super) → AreUnmapped image 0 head.layout.chunks → (tables_of image (front_set image head)).entries ≡ replicate head.layout.chunks unmapped
 entries_are image head h = same_everywhere (first_entry image) unmapped 0 head.layout.chunks (λ chunk from below. h chunk from (omega arith))
 
 zero_at : (b : ℕ) (t : Tables) (n : ℕ) (sector : ℕ → ℕ → List ℕ) (i : ℕ) → t.entries ≡ replicate n unmapped → sector_of b t sector i ≡ zero_sector
@@ -50,10 +50,10 @@ zero_at b t n sector i is =
 -- the base of a volume that nobody wrote
 pub base_is : (g : Shape) (head : Super) (image : Image) → IsOpened g head image → base_of image ≡ zero_blocks (device_blocks g head.layout)
 base_is g head image o =
-    let t : Tables = tables_of image (first_set image head) in
+    let t : Tables = tables_of image (front_set image head) in
     let b : ℕ = image.geometry.zone_blocks in
     let is = entries_are image head o.unmapped in
-    ap (λ found. option_map_or (λ h. content image (first_set image h)) found []) o.set.good
+    ap (λ found. option_map_or (λ h. content image (front_set image h)) found []) o.set.good
     ∙ same_everywhere (sector_of b t image.sector) zero_sector 0 (length t.entries * b * 8) (λ i from below. zero_at b t head.layout.chunks image.sector i is)
     ∙ ap (λ n. replicate (n * b * 8) zero_sector) (ap length is ∙ length-replicate head.layout.chunks unmapped)
     ∙ ap (λ (h : Shape). zero_blocks (device_blocks h head.layout)) (sym o.geometry)

@@ -37,7 +37,8 @@ abbrev pub Ends : List ℕ → Image → Outcome → Type 0
 Ends bytes image outcomes.Usage = ⊥
 Ends bytes image outcomes.Source = Unit {0}
 Ends bytes image outcomes.NotBuilt = IsNoScriptOfReads bytes ⊎ (IsRunnable bytes × IsWritten image)
-Ends bytes image (outcomes.NoVolume kind) = IsRunnable bytes × RefusesHead kind image.geometry (good_super image 0)
+Ends bytes image (outcomes.NoVolume kind) =
+    IsRunnable bytes × RefusesHead kind image.geometry (good_super image 0)
 Ends bytes image (outcomes.Ended endings.Ok) = IsRunnable bytes × Opens image
 Ends bytes image (outcomes.Ended (endings.Stopped whys.Device)) = IsRunnable bytes
 Ends bytes image (outcomes.Ended (endings.Stopped whys.Memory)) = Unit {0}
@@ -45,7 +46,9 @@ Ends bytes image (outcomes.Ended (endings.Stopped whys.Generation)) = ⊥
 
 -- the words decide first
 abbrev pub Comes : List (List ℕ) → List ℕ → Image → Outcome → Type 0
-Comes words bytes image outcome = ((IsCommand words → ⊥) × (outcome ≡ outcomes.Usage)) ⊎ (IsCommand words × Ends bytes image outcome)
+Comes words bytes image outcome =
+    ((IsCommand words → ⊥) × (outcome ≡ outcomes.Usage))
+    ⊎ (IsCommand words × Ends bytes image outcome)
 
 -- the outcomes that words, script and image decide, and no count of faults and no memory
 abbrev pub IsDecided : Outcome → Type 0
@@ -62,7 +65,8 @@ OneOutcome = (words : List (List ℕ)) (bytes : List ℕ) (image : Image) (o p :
 
 -- the status is that of the outcome; only where all was done may it be 6 instead
 abbrev pub HasStatus : Outcome → ℕ → Type 0
-HasStatus outcome status = (status ≡ status_of outcome) ⊎ ((status ≡ 6) × (outcome ≡ outcomes.Ended endings.Ok))
+HasStatus outcome status =
+    (status ≡ status_of outcome) ⊎ ((status ≡ 6) × (outcome ≡ outcomes.Ended endings.Ok))
 
 -- the statuses that a run can end with so far
 abbrev pub IsStatus : ℕ → Type 0
@@ -91,7 +95,8 @@ IsTaken status before now = (status ≡ 0) ⊎ IsFaultless before now
 -- each caller's entries are all of its pieces
 abbrev pub IsWhole : ℕ → ℕ → List Request → List HistoryEntry → Type 0
 IsWhole z blocks plan history = (caller : ℕ) →
-    marks_of_caller caller (map mark_of_entry history) ≡ marks_of_caller caller (map mark_of_piece (pieces_of z blocks plan))
+    marks_of_caller caller (map mark_of_entry history)
+    ≡ marks_of_caller caller (map mark_of_piece (pieces_of z blocks plan))
 
 abbrev pub is_fault : Answer → Bool
 is_fault (Got bytes) = false
@@ -104,7 +109,8 @@ abbrev pub fault_count : List HistoryEntry → ℕ
 fault_count history = count_by (λ e. is_fault e.reply) history
 
 -- a history over the base of an image, in the order of a plan, with all its pieces where that is said
-pub record IsHistory (image : Image) (plan : List Request) (history : List HistoryEntry) (whole : Type 0) : Type 0 where
+pub record IsHistory
+  (image : Image) (plan : List Request) (history : List HistoryEntry) (whole : Type 0) : Type 0 where
   pub legal : IsLegal (base_of image) history
   pub ordered : IsOrdered image.geometry.zone_blocks (length (base_of image) / 8) plan history
   pub all : whole → IsWhole image.geometry.zone_blocks (length (base_of image) / 8) plan history
@@ -126,7 +132,9 @@ abbrev pub EndsBefore : List HistoryEntry → Outcome → Type 0
 EndsBefore history outcome = (history ≡ []) × (outcome ≡ outcomes.Ended endings.Ok → ⊥)
 
 -- there is a history and an outcome, and what the sink took is their text
-pub record Reports (words : List (List ℕ)) (bytes : List ℕ) (image : Image) (status faults now : ℕ) (before : List ℕ) (after : Option (List ℕ)) (whole : Type 0) : Type 0 where
+pub record Reports
+  (words : List (List ℕ)) (bytes : List ℕ) (image : Image) (status faults now : ℕ)
+  (before : List ℕ) (after : Option (List ℕ)) (whole : Type 0) : Type 0 where
   pub plan : List Request
   pub history : List HistoryEntry
   pub outcome : Outcome
@@ -138,8 +146,10 @@ pub record Reports (words : List (List ℕ)) (bytes : List ℕ) (image : Image) 
   pub told : Takes before after (output history outcome) whole
 
 -- where the disk tells its zones, the source its bytes and the sink what it took
-abbrev pub WhereAllTold : Option Image → Option (List ℕ) → Option (List ℕ) → (Image → List ℕ → List ℕ → Type 0) → Type 0
-WhereAllTold zones left held P = (image : Image) (bytes before : List ℕ) → zones ≡ Some image → left ≡ Some bytes → held ≡ Some before → P image bytes before
+abbrev pub WhereAllTold : Option Image → Option (List ℕ) → Option (List ℕ) →
+    (Image → List ℕ → List ℕ → Type 0) → Type 0
+WhereAllTold zones left held P = (image : Image) (bytes before : List ℕ) →
+    zones ≡ Some image → left ≡ Some bytes → held ≡ Some before → P image bytes before
 
 -- a plan that is written in some script that can be run
 abbrev pub IsReadPlan : List Request → Type 0
@@ -150,7 +160,9 @@ abbrev pub no_memory : Outcome
 no_memory = outcomes.Ended (endings.Stopped whys.Memory)
 
 -- what was told: this history and outcome, or none where no memory was found for their text
-pub record Tells (history : List HistoryEntry) (outcome : Outcome) (status : ℕ) (before : List ℕ) (after : Option (List ℕ)) (whole : Type 0) : Type 0 where
+pub record Tells
+  (history : List HistoryEntry) (outcome : Outcome) (status : ℕ)
+  (before : List ℕ) (after : Option (List ℕ)) (whole : Type 0) : Type 0 where
   pub entries : List HistoryEntry
   pub ending : Outcome
   pub which : ((entries ≡ history) × (ending ≡ outcome)) ⊎ ((entries ≡ []) × (ending ≡ no_memory))

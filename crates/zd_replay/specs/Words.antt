@@ -17,4 +17,5 @@ is_command (image ∷ script ∷ other ∷ others) = false
 -- the words of a command that stand for the image and the script; none where they are no command
 abbrev pub NamesFiles : List (List ℕ) → Option (List ℕ) → Option (List ℕ) → Type 0
 NamesFiles words image script =
-    (image ≡ (if is_command words then slice_get words 0 else None)) × (script ≡ (if is_command words then slice_get words 1 else None))
+    (image ≡ (if is_command words then slice_get words 0 else None))
+    × (script ≡ (if is_command words then slice_get words 1 else None))

@@ -26,7 +26,8 @@ use zd_ports::{Sink, Source};
 /// Reads a script, and its plan.
 fn read_plan<S: Source>(alloc: Global, script: &mut S) -> Result<Plan, ScriptFault>
     ensures plan { IfOk result IsReadPlan }
-    ensures ok { IfOk result (λ plan. WhereTold (S.left script.old) (λ bytes. IsScriptOfReads bytes plan)) }
+    ensures ok { IfOk result (λ plan.
+        WhereTold (S.left script.old) (λ bytes. IsScriptOfReads bytes plan)) }
     ensures not_reads { result ≡ Err ScriptFault.NotReads →
         WhereTold (S.left script.old) IsNoScriptOfReads }
     ensures source { result ≡ Err ScriptFault.Source → Rose (S.faults script.old) (S.faults script.new) }
