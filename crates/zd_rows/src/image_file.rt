@@ -1,13 +1,16 @@
 //! Runs over disks in image files.
 
 use crate::fresh::{SMALL, set_block};
-use crate::run::expect;
+use crate::reads::{SIX_READS, SIX_REPORTED};
+use crate::run::{expect, lines, run};
 use std::alloc::{AllocError, Global};
 use std::fs;
 use std::fs::File;
 use std::rt::Files;
 use std::test::Fail;
+use zd_base::Status;
 use zd_disk::FileDisk;
+use zd_ports::{StdSink, StdSource};
 
 /// The first 20 bytes of an image file: its zones are 6 conventional and 6 sequential ones of 16
 /// blocks.
@@ -27,16 +30,33 @@ fn fresh_file(alloc: Global) -> Result<Vec<u8>, AllocError> {
     Ok(file)
 }
 
+/// Disk, script and report are files, as those of a command are.
 #[test]
 fn a_fresh_volume_in_a_file_reads_as_zeros(rt: HostRuntime) -> Result<(), Fail> {
-    let file = fresh_file(rt.alloc())?;
-    fs::write(&rt, "fresh.img", file.as_slice())?;
+    let image = fresh_file(rt.alloc())?;
+    let script = lines(rt.alloc(), SIX_READS)?;
+    fs::write(&rt, "fresh.img", image.as_slice())?;
+    fs::write(&rt, "fresh.script", script.as_slice())?;
     let disk = FileDisk::at(&rt, "fresh.img");
-    let output = "0 1 0 r 126 2 data z16 @0;0 2 0 r 127 2 range @0;end 0 ok;";
-    expect(&rt, disk, "r 0 126 2;r 0 127 2;", output, 0)?;
-    let after = fs::read(&rt, "fresh.img")?;
-    assert!(rt; after == file);
-    rt.remove_file("fresh.img")?;
+    let mut source = StdSource::new(fs::open(&rt, "fresh.script")?);
+    let mut sink = StdSink::new(fs::create(&rt, "fresh.report")?);
+    let words = ["fresh.img", "fresh.script"];
+    let (ended, _) = run(rt.alloc(), &words, disk, &mut source, &mut sink)?;
+    assert_eq!(rt; ended, Status(0));
+    assert!(rt; fs::read(&rt, "fresh.report")? == lines(rt.alloc(), SIX_REPORTED)?);
+    assert!(rt; fs::read(&rt, "fresh.img")? == image);
+    for path in ["fresh.img", "fresh.script", "fresh.report"] {
+        rt.remove_file(path)?;
+    }
+    Ok(())
+}
+
+#[test]
+fn a_file_of_the_header_alone_is_no_volume(rt: HostRuntime) -> Result<(), Fail> {
+    fs::write(&rt, "blank.img", HEADER.as_slice())?;
+    let disk = FileDisk::at(&rt, "blank.img");
+    expect(&rt, disk, "", "end 3 volume no-super-block;", 3)?;
+    rt.remove_file("blank.img")?;
     Ok(())
 }
 

@@ -7,10 +7,12 @@ use std::test::Fail;
 use zd_base::Status;
 use zd_ports::MemSink;
 
-const SIX_READS: &str =
+/// Reads inside the device, across chunks, and past its end.
+pub const SIX_READS: &str =
     "r 0 0 1;r 0 0 128;r 0 127 1;r 0 127 2;r 0 14 4;r 0 18446744073709551615 1;";
 
-const SIX_REPORTED: &str = "0 1 0 r 0 1 data z8 @0;\
+/// What they print.
+pub const SIX_REPORTED: &str = "0 1 0 r 0 1 data z8 @0;\
     0 2 0 r 0 16 data z128 @0;\
     0 2 1 r 16 16 data z128 @0;\
     0 2 2 r 32 16 data z128 @0;\
