@@ -1,0 +1,11 @@
+//! Scripts: their bytes from a source, and the plan that their lines write.
+#![tactic(auto)]
+
+mod fault;
+mod number;
+mod read;
+
+pub use fault::ScriptFault;
+pub use read::read_all;
+pub use zd_model::{BadLine, Request, What};
+pub use zd_plain::Plan;
