@@ -1,9 +1,9 @@
 //! Numbers in texts.
 
-ghost use Rattle.std.specs.Prelude.{◌≡◌, ◌≢◌, ◌∷◌, ◌++◌, ◌^◌, ℕ, List, min, not, position, All, IsTrue, IfSome, IfNone};
+ghost use Rattle.std.specs.Prelude.{◌≡◌, ◌≢◌, ◌∷◌, ◌++◌, ℕ, List, length, map, not, position, All, IsTrue, IfSome, IfNone};
 ghost use Rattle.std.specs.Char.{is_ascii_digit, IsAsciiDigit};
 ghost use Rattle.zd_model.specs.Text.{numeral};
-ghost use Rattle.zd_script.specs.Number.{HasNumber, value_after};
+ghost use Rattle.zd_script.specs.Number.{HasField, HasNumber, fields, told, value_after};
 
 /// A number that no field of a text may have: one more than the largest block.
 const BEYOND: u128 = 1 << 64;
@@ -31,7 +31,7 @@ fn is_numeral(digits: &[u8]) -> bool
 /// The number that digits write, at most `BEYOND`.
 fn value_of(digits: &[u8]) -> u128
     requires { All IsAsciiDigit digits.now }
-    ensures { result ≡ min (value_after 0 digits.now) (2 ^ 64) }
+    ensures { result ≡ told (value_after 0 digits.now) }
 {
     let mut value = 0;
     for digit in digits {
@@ -42,9 +42,9 @@ fn value_of(digits: &[u8]) -> u128
 
 /// The number in front of a text, and what stands behind it, beginning with no digit. The number has
 /// no leading zeros, and it may have any size: from `BEYOND` on the answer is `BEYOND`.
-pub fn number(text: &[u8]) -> Option<(u128, &[u8])>
+fn number(text: &[u8]) -> Option<(u128, &[u8])>
     ensures found { IfSome result (λ found.
-        (n : ℕ) × HasNumber text.now n found.1.now × (found.0 ≡ min n (2 ^ 64))) }
+        (n : ℕ) × HasNumber text.now n found.1.now × (found.0 ≡ told n)) }
     ensures none { IfNone result ((n : ℕ) (rest : List ℕ) → HasNumber text.now n rest → ⊥) }
 {
     let (digits, rest) = text.split_at(digit_count(text)?);
@@ -54,13 +54,29 @@ pub fn number(text: &[u8]) -> Option<(u128, &[u8])>
     Some((value_of(digits), rest))
 }
 
-/// The number in front of a text, as `number` answers it, and what stands behind it and the byte `end`.
-pub fn field(text: &[u8], end: u8) -> Option<(u128, &[u8])>
-    requires { IsAsciiDigit end → ⊥ }
-    ensures found { IfSome result (λ found. (n : ℕ)
-        × (text.now ≡ numeral n ++ end ∷ found.1.now) × (found.0 ≡ min n (2 ^ 64))) }
-    ensures none { IfNone result ((n : ℕ) (rest : List ℕ) → text.now ≢ numeral n ++ end ∷ rest) }
+/// The number behind the space in front of a text, and what stands behind it, as `number` answers.
+fn field(text: &[u8]) -> Option<(u128, &[u8])>
+    ensures found { IfSome result (λ found.
+        (n : ℕ) × HasField text.now n found.1.now × (found.0 ≡ told n)) }
+    ensures none { IfNone result ((n : ℕ) (rest : List ℕ) → HasField text.now n rest → ⊥) }
 {
-    let (value, rest) = number(text)?;
-    Some((value, rest.strip_prefix(&[end])?))
+    number(text.strip_prefix(b" ")?)
+}
+
+/// The `N` numbers of a line behind its letter, as `number` answers each, and what stands behind the
+/// line.
+pub fn numbers<const N: usize>(text: &[u8]) -> Option<([u128; N], &[u8])>
+    ensures found { IfSome result (λ found. (ns : List ℕ) × (length ns ≡ N)
+        × (text.now ≡ fields ns ++ 10 ∷ found.1.now) × (found.0 ≡ map told ns)) }
+    ensures none { IfNone result ((ns : List ℕ) (rest : List ℕ) →
+        length ns ≡ N → text.now ≢ fields ns ++ 10 ∷ rest) }
+{
+    let mut values = [0; N];
+    let mut rest = text;
+    for value in &mut values {
+        let (number, after) = field(rest)?;
+        *value = number;
+        rest = after;
+    }
+    Some((values, rest.strip_prefix(b"\n")?))
 }
