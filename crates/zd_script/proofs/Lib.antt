@@ -1,4 +1,6 @@
+pub mod ReadLaws
 pub mod NumberLaws
 pub mod FieldLaws
 pub mod LineForms
-pub mod ReadLaws
+pub mod RequestLaws
+pub mod PlanLaws

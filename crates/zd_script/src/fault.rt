@@ -1,9 +1,10 @@
 //! Why there is no plan.
 
 ghost use Rattle.std.specs.Prelude.{◌≡◌};
-ghost use Rattle.zd_script.specs.declared.fault.ScriptFault.TheVariants.{Memory};
+ghost use Rattle.zd_script.specs.declared.fault.ScriptFault.TheVariants.{Memory as OutOfMemory};
 
 use std::alloc::{AllocError, AllocFailed};
+use zd_base::Memory;
 use zd_model::BadLine;
 
 /// Why a script can't be run.
@@ -17,8 +18,24 @@ pub enum ScriptFault {
     Memory,
 }
 
+impl ScriptFault {
+    /// That of bytes that are too many for a script.
+    pub(crate) const TOO_LONG: ScriptFault = ScriptFault::Bad {
+        line: 0,
+        why: BadLine::TooLong,
+    };
+}
+
+impl From<Memory> for ScriptFault {
+    ghost from_gives = { λ _ fault. fault ≡ OutOfMemory };
+
+    fn from(_error: Memory) -> ScriptFault {
+        ScriptFault::Memory
+    }
+}
+
 impl From<AllocError> for ScriptFault {
-    ghost from_gives = { λ _ fault. fault ≡ Memory };
+    ghost from_gives = { λ _ fault. fault ≡ OutOfMemory };
 
     fn from(_error: AllocError) -> ScriptFault {
         ScriptFault::Memory
@@ -26,7 +43,7 @@ impl From<AllocError> for ScriptFault {
 }
 
 impl<T: Drop> From<AllocFailed<T>> for ScriptFault {
-    ghost from_gives = { λ _ fault. fault ≡ Memory };
+    ghost from_gives = { λ _ fault. fault ≡ OutOfMemory };
 
     fn from(_error: AllocFailed<T>) -> ScriptFault {
         ScriptFault::Memory

@@ -2,11 +2,14 @@
 #![tactic(auto)]
 
 mod fault;
+mod limits;
 mod line;
 mod number;
+mod plan;
 mod read;
 
 pub use fault::ScriptFault;
+pub use plan::parse;
 pub use read::read_all;
 pub use zd_model::{BadLine, Request, What};
 pub use zd_plain::Plan;

@@ -4,12 +4,12 @@ ghost use Rattle.std.specs.Prelude.{◌≡◌, ◌+◌, ◌<◌, ◌≤◌, [], 
 ghost use Rattle.zd_base.specs.Faults.{Rose};
 ghost use Rattle.zd_disk.specs.Told.{WhereTold};
 ghost use Rattle.zd_model.specs.Script.{Refuses};
+ghost use Rattle.zd_model.specs.declared.texts.BadLine.TheVariants.{TooLong};
 ghost use Rattle.zd_script.specs.Fault.{IfBad};
 ghost use Rattle.zd_script.specs.Read.{ReadsOn};
 
 use crate::ScriptFault;
 use std::alloc::{AllocError, Global};
-use zd_model::BadLine;
 use zd_ports::Source;
 
 /// The most bytes of a script.
@@ -56,7 +56,7 @@ pub fn read_all<S: Source>(alloc: Global, from: &mut S) -> Result<Vec<u8>, Scrip
     ensures size { IfOk result (λ v. vec_len v ≤ 67_108_864) }
     ensures end { IfOk result (λ v.
         WhereTold (S.left from.old) (λ bytes. S.left from.new ≡ Some [])) }
-    ensures long { IfBad result (λ line why. (line ≡ 0) × (why ≡ BadLine.TooLong)) }
+    ensures long { IfBad result (λ line why. (line ≡ 0) × (why ≡ TooLong)) }
     ensures bad { IfBad result (λ line why.
         WhereTold (S.left from.old) (λ bytes. Refuses bytes line why)) }
     ensures stops { IfBad result (λ line why. WhereTold (S.left from.old) (λ bytes.
@@ -72,8 +72,5 @@ pub fn read_all<S: Source>(alloc: Global, from: &mut S) -> Result<Vec<u8>, Scrip
             return Ok(all);
         }
     }
-    Err(ScriptFault::Bad {
-        line: 0,
-        why: BadLine::TooLong,
-    })
+    Err(ScriptFault::TOO_LONG)
 }
