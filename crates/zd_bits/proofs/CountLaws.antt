@@ -15,8 +15,13 @@ range_split a (suc m) n =
     let start : a + 1 + m ≡ a + suc m = omega arith in
     rw more (ap (λ (xs : List ℕ). a ∷ xs) (range_split (a + 1) m n ∙ ap (λ (x : ℕ). range_with_len (a + 1) m ++ range_with_len x n) start))
 
+pub weight_none : (bits : List ℕ) → weight_of bits 0 ≡ 0
+unfolding weight_of
+weight_none bits = refl
+
 -- the weight of a range and of the next n blocks
 pub weight_split : (bits : List ℕ) (m n : ℕ) → weight_of bits (m + n) ≡ weight_of bits m + count_by (is_set bits) (range_with_len m n)
+unfolding weight_of
 weight_split bits m n =
     let start : zero + m ≡ m = omega arith in
     ap (count_by (is_set bits)) (range_split 0 m n)

@@ -44,5 +44,5 @@ pub record IsRun (bits : List ℕ) (from end : ℕ) (bit : Bool) (count : ℕ) :
   pub longest : from + count < end → is_set bits (from + count) ≢ bit
 
 -- how many blocks below `end` are valid
-abbrev pub weight_of : List ℕ → ℕ → ℕ
+unfoldable pub weight_of : List ℕ → ℕ → ℕ
 weight_of bits end = count_by (is_set bits) (range_with_len 0 end)

@@ -41,17 +41,32 @@ fn ranges_over_the_bounds_of_bytes(rt: HostRuntime) {
     assert!(rt; !clear_range(&mut bits, 3, 0));
 }
 
-#[test]
-fn zones_of_two_bitmap_blocks(rt: HostRuntime) {
+/// The bits of a zone of 65,536 blocks, of which those from 32,760 on but the last are valid.
+fn two_blocks() -> [u8; 8192] {
     let mut bits = [0; 8192];
-    assert!(rt; set_range(&mut bits, 32_760, 32_776));
-    assert!(rt; valid(&bits, 65_535) && !valid(&bits, 32_759));
-    assert_eq!(rt; weight(&bits, 65_536), 32_776);
-    assert_eq!(rt; weight(&bits, 65_535), 32_775);
+    set_range(&mut bits, 32_760, 32_776);
+    clear_range(&mut bits, 65_535, 1);
+    bits
+}
+
+#[test]
+fn weights_of_two_bitmap_blocks(rt: HostRuntime) {
+    let bits = two_blocks();
+    assert_eq!(rt; weight(&bits, 65_536), 32_775);
+    assert_eq!(rt; weight(&bits, 65_534), 32_774);
+}
+
+#[test]
+fn first_blocks_of_two_bitmap_blocks(rt: HostRuntime) {
+    let bits = two_blocks();
     assert_eq!(rt; first_valid(&bits, 0, 65_536), Some(32_760));
-    assert_eq!(rt; run_at(&bits, 0, 65_536), (false, 32_760));
-    assert_eq!(rt; run_at(&bits, 32_760, 65_536), (true, 32_776));
-    assert_eq!(rt; run_at(&bits, 65_535, 65_536), (true, 1));
-    assert!(rt; clear_range(&mut bits, 65_535, 1));
     assert_eq!(rt; first_valid(&bits, 65_535, 65_536), None);
+}
+
+#[test]
+fn runs_of_two_bitmap_blocks(rt: HostRuntime) {
+    let bits = two_blocks();
+    assert_eq!(rt; run_at(&bits, 0, 65_536), (false, 32_760));
+    assert_eq!(rt; run_at(&bits, 32_760, 65_536), (true, 32_775));
+    assert_eq!(rt; run_at(&bits, 65_535, 65_536), (false, 1));
 }
