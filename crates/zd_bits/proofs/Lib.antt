@@ -1,0 +1,3 @@
+pub mod RangeLaws
+pub mod MaskLaws
+pub mod CountLaws
