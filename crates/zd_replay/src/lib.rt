@@ -3,10 +3,9 @@
 
 mod alone;
 mod laws;
-mod number;
 mod report;
 mod run;
-mod script;
+mod scripts;
 mod tables;
 mod words;
 

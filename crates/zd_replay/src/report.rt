@@ -3,16 +3,16 @@
 ghost use Rattle.std.specs.Prelude.{◌≡◌, ◌⊎◌, ◌+◌, ◌*◌, ◌<◌, ◌≤◌, ◌++◌, ◌∷◌, [], string_bytes, OnOk, IfOk, IsOk, length, replicate, true, false};
 ghost use Rattle.std.specs.List.{AllByRecursion, flat_map};
 ghost use Rattle.zd_model.specs.Entries.{answer_of, entry_of};
-ghost use Rattle.zd_model.specs.Report.{entry_text, reply_text, outcome_text, status_of, output};
+ghost use Rattle.zd_model.specs.Report.{entry_text, reply_text, outcome_text, why_text, status_of, output};
 ghost use Rattle.zd_model.specs.Text.{numeral};
 ghost use Rattle.zd_base.specs.Faults.{HasCause, Rose};
 ghost use Rattle.zd_disk.specs.Told.{WhereTold};
 ghost use Rattle.zd_replay.specs.Run.{AnswersZeros};
-ghost use Rattle.zd_replay.specs.Replay.{Takes, Tells, HasStatus, IsTaken, no_memory};
+ghost use Rattle.zd_replay.specs.Replay.{Takes, Tells, IsFixed, HasStatus, IsTaken, no_memory};
 
 use std::alloc::{AllocError, Global};
 use zd_base::{Failed, SECTOR, Status, Why};
-use zd_model::{NoVolume, Outcome};
+use zd_model::{BadLine, NoVolume, Outcome};
 use zd_plain::{Ending, Entry, History, Reply, What, block_count, first_block};
 use zd_ports::Sink;
 
@@ -66,13 +66,15 @@ fn add_line(text: &mut String, entry: &Entry) -> Result<(), AllocError>
     Ok(())
 }
 
-/// The last line of an output.
-fn outcome_line(outcome: Outcome) -> &'static str
+/// The last line of an output that tells no line of a script.
+fn fixed_line(outcome: Outcome) -> &'static str
+    requires { IsFixed outcome }
     ensures { result.now ≡ outcome_text outcome }
 {
     match outcome {
         Outcome::Ended(Ending::Ok) => "end 0 ok\n",
         Outcome::Usage => "end 1 usage\n",
+        Outcome::BadScript { .. } => unreachable!(),
         Outcome::NoVolume(NoVolume::NoSuperBlock) => "end 3 volume no-super-block\n",
         Outcome::NoVolume(NoVolume::Layout) => "end 3 volume layout\n",
         Outcome::Ended(Ending::Stopped(Why::Device)) => "end 4 device\n",
@@ -83,6 +85,40 @@ fn outcome_line(outcome: Outcome) -> &'static str
     }
 }
 
+/// The rule that a line of a script breaks.
+fn rule(why: BadLine) -> &'static str
+    ensures { result.now ≡ why_text why }
+{
+    match why {
+        BadLine::Form => "form",
+        BadLine::Number => "number",
+        BadLine::Caller => "caller",
+        BadLine::TooLong => "long",
+    }
+}
+
+/// Appends the line of a script that is refused.
+fn add_refusal(text: &mut String, line: u32, why: BadLine) -> Result<(), AllocError>
+    ensures { OnOk result (string_bytes text.new
+        ≡ string_bytes text.old ++ outcome_text (Outcome.BadScript line why)) }
+{
+    text.push_str("end 2 script ")?;
+    add_field(text, u64::from(line))?;
+    text.push_str(rule(why))?;
+    text.push_str("\n")?;
+    Ok(())
+}
+
+/// Appends the last line of an output.
+fn add_outcome(text: &mut String, outcome: Outcome) -> Result<(), AllocError>
+    ensures { OnOk result (string_bytes text.new ≡ string_bytes text.old ++ outcome_text outcome) }
+{
+    match outcome {
+        Outcome::BadScript { line, why } => add_refusal(text, line, why),
+        _ => text.push_str(fixed_line(outcome)),
+    }
+}
+
 /// The exit status of an outcome.
 fn status_of(outcome: Outcome) -> Status
     ensures { result.0 ≡ status_of outcome }
@@ -90,6 +126,7 @@ fn status_of(outcome: Outcome) -> Status
     Status(match outcome {
         Outcome::Ended(Ending::Ok) => 0,
         Outcome::Usage => 1,
+        Outcome::BadScript { .. } => 2,
         Outcome::NoVolume(_) => 3,
         Outcome::Ended(Ending::Stopped(Why::Device)) => 4,
         Outcome::Source => 5,
@@ -108,7 +145,7 @@ fn text_of(alloc: Global, history: &History, outcome: Outcome) -> Result<String,
     for i in 0..history.len() {
         add_line(&mut text, history.get(i))?;
     }
-    text.push_str(outcome_line(outcome))?;
+    add_outcome(&mut text, outcome)?;
     Ok(text)
 }
 
@@ -155,13 +192,14 @@ fn tell<K: Sink>(out: &mut K, text: &str, outcome: Outcome) -> Status
 
 /// Tells an outcome before which nothing was entered.
 pub fn tell_alone<K: Sink>(out: &mut K, outcome: Outcome) -> Status
+    requires { IsFixed outcome }
     ensures taken { WhereTold (K.held out.old) (λ before. Takes before (K.held out.new)
         (output [] outcome) (IsTaken result.0 (K.faults out.old) (K.faults out.new))) }
     ensures answers { HasStatus outcome result.0 }
     ensures sink { result.0 ≡ 6 → Rose (K.faults out.old) (K.faults out.new) }
     ensures later { K.faults out.old ≤ K.faults out.new }
 {
-    tell(out, outcome_line(outcome), outcome)
+    tell(out, fixed_line(outcome), outcome)
 }
 
 /// Tells a history and how its run ended. Where no memory is found for the text, that alone is told.
