@@ -1,8 +1,8 @@
 -- The pieces of a plan of reads are reads, and each is marked out of range where it ends past the device.
-use Rattle.std.proofs.Common.{◌≡◌, ℕ, zero, suc, ◌+◌, ◌*◌, ◌/◌, ◌<◌, ◌≤◌, Bool, true, false, not, List, [], ◌∷◌, ◌++◌, map, refl, sym, ap, ◌∙◌, subst, arith, leb as nat_le}
+use Rattle.std.proofs.Common.{◌≡◌, ℕ, ◌+◌, ◌*◌, ◌≤◌, Bool, true, false, not, List, [], ◌∷◌, ◌++◌, map, refl, ap, arith, leb as nat_le}
 use Rattle.std.proofs.lemmas.Bool.{le-leb, leb-true}
 use Rattle.std.specs.List.{AllByRecursion, enumerate_from, flat_map}
-use Rattle.zd_model.specs.Cut.{IsCut, Moves}
+use Rattle.zd_model.specs.Cut.{IsCut}
 use Rattle.zd_model.specs.Plain.{ends_past}
 use Rattle.zd_model.specs.Pieces.{first_block, block_count, parts_of, part_of, pieces_of_request, pieces_of, chunks_touched}
 use Rattle.zd_model.proofs.CutLaws.{parts_cut}

@@ -1,6 +1,6 @@
 -- The run of a plan over a volume that nobody wrote.
-use Rattle.std.proofs.Common.{◌≡◌, ℕ, zero, suc, ◌+◌, ◌-◌, ◌*◌, ◌/◌, ◌<◌, ◌≤◌, Bool, true, false, cond, List, [], ◌∷◌, ◌++◌, length, map, take, replicate, refl, sym, ap, ◌∙◌, subst, arith}
-use Rattle.std.proofs.lemmas.List.{length-replicate, take_all}
+use Rattle.std.proofs.Common.{◌≡◌, ℕ, zero, suc, ◌*◌, ◌/◌, ◌≤◌, Bool, true, false, cond, List, [], ◌∷◌, length, map, take, replicate, refl, ap, ◌∙◌, arith}
+use Rattle.std.proofs.lemmas.List.{length-replicate}
 use Rattle.std.proofs.lemmas.List.Sums.{sum_by-append}
 use Rattle.std.specs.List.{AllByRecursion}
 use Rattle.zd_base.specs.Geometry.{Shape}
@@ -9,7 +9,7 @@ use Rattle.zd_model.specs.Bytes.{zero_sector}
 use Rattle.zd_model.specs.Image.{Image}
 use Rattle.zd_model.specs.Pieces.{block_count, pieces_of}
 use Rattle.zd_model.specs.Plain.Answer.{Got, Range}
-use Rattle.zd_model.specs.History.{HistoryEntry, IsLegal, IsOrdered, marks_of_caller, mark_of_entry, mark_of_piece}
+use Rattle.zd_model.specs.History.{HistoryEntry}
 use Rattle.zd_model.specs.Script.{HasNumbers}
 use Rattle.zd_model.specs.declared.metadata.Super.{Super}
 use Rattle.zd_model.specs.declared.requests.What.{What}
@@ -17,8 +17,8 @@ use Rattle.zd_model.specs.declared.requests.What.TheVariants.{Read, Write, Disca
 use Rattle.zd_model.specs.declared.requests.Piece.{Piece}
 use Rattle.zd_model.specs.declared.requests.Request.{Request}
 use Rattle.zd_replay.specs.Opening.{IsOpened, base_of}
-use Rattle.zd_replay.specs.Reads.{IsScriptOfReads, IsFirstCallersRead, Reads}
-use Rattle.zd_replay.specs.Replay.{IsHistory, IsReadPlan, IsWhole, fault_count, is_fault}
+use Rattle.zd_replay.specs.Reads.{IsFirstCallersRead, Reads}
+use Rattle.zd_replay.specs.Replay.{IsHistory, IsReadPlan, fault_count, is_fault}
 use Rattle.zd_replay.specs.Run.{zeros_for, AnswersZeros}
 use Rattle.zd_replay.proofs.PieceLaws.{IsRead, ReadsSome, pieces_right}
 use Rattle.zd_replay.proofs.ZeroLaws.{base_is, zeros_legal, zeros_ordered, zeros_whole}

@@ -2,8 +2,7 @@
 use Rattle.std.proofs.Common.{◌≡◌, ◌+◌, ◌-◌, ◌≤◌, ℕ, zero, suc, List, [], ◌∷◌, ◌++◌, take, drop, length, Some, IfSome, Option, refl, sym, ◌∙◌, ap, arith, append_assoc, take-append-drop, add-one}
 use Rattle.std.proofs.Math.Seq.{take-add}
 use Rattle.std.specs.List.{slice_get, flat_map}
-use Rattle.std.proofs.lemmas.List.{take-take, append-nil, flat_map_more}
-use Rattle.zd_disk.specs.Told.{WhereTold}
+use Rattle.std.proofs.lemmas.List.{take-take, flat_map_more}
 use Rattle.zd_disk.proofs.ToldLaws.{IfSome-at}
 use Rattle.std.specs.Prelude.{Result, Ok, Err, is_ok, IsOk, OnErr, Bool, true}
 use Rattle.std.proofs.Common.{inl, inr}

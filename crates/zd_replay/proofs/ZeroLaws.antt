@@ -1,5 +1,5 @@
 -- What a volume that nobody wrote holds, and what it answers.
-use Rattle.std.proofs.Common.{◌≡◌, ℕ, zero, suc, ◌+◌, ◌-◌, ◌*◌, ◌/◌, ◌%◌, ◌<◌, ◌≤◌, Bool, true, false, cond, List, [], ◌∷◌, ◌++◌, length, map, take, drop, replicate, get_or, Some, None, refl, sym, ap, ap₂, ◌∙◌, subst, inl, arith, take-append-drop}
+use Rattle.std.proofs.Common.{◌≡◌, ℕ, zero, suc, ◌+◌, ◌-◌, ◌*◌, ◌/◌, ◌<◌, ◌≤◌, Bool, true, false, cond, List, [], ◌∷◌, ◌++◌, length, map, take, drop, replicate, get_or, refl, sym, ap, ap₂, ◌∙◌, subst, inl, arith, take-append-drop}
 use Rattle.std.proofs.lemmas.List.{length-replicate, take-replicate, drop-replicate, replicate-append-replicate, map-append}
 use Rattle.std.specs.List.{AllByRecursion, range_with_len, concat, slice_range}
 use Rattle.std.specs.Option.{option_map_or}
@@ -7,12 +7,12 @@ use Rattle.zd_base.specs.Geometry.{Shape}
 use Rattle.zd_base.specs.Layout.{device_blocks}
 use Rattle.zd_model.specs.Bytes.{zero_sector}
 use Rattle.zd_model.specs.Image.{Image}
-use Rattle.zd_model.specs.Volume.{good_super, tables_of, entry_in, content}
+use Rattle.zd_model.specs.Volume.{tables_of, content}
 use Rattle.zd_model.specs.Tables.{Tables, entry_of, sector_of}
-use Rattle.zd_model.specs.Plain.{ends_past, reply_to, Answer}
+use Rattle.zd_model.specs.Plain.{ends_past, reply_to}
 use Rattle.zd_model.specs.Plain.Answer.{Got, Range}
 use Rattle.zd_model.specs.Pieces.{block_count, pieces_of}
-use Rattle.zd_model.specs.History.{HistoryEntry, AllAnswer, InTime, IsLegal, IsOrdered, Mark, entry_after, waits, mark_of_entry, mark_of_piece, marks_of_caller}
+use Rattle.zd_model.specs.History.{AllAnswer, InTime, IsLegal, IsOrdered, Mark, entry_after, waits, mark_of_entry, mark_of_piece, marks_of_caller}
 use Rattle.zd_model.proofs.OrderLaws.{marks-append}
 use Rattle.zd_model.specs.declared.requests.Request.{Request}
 use Rattle.zd_model.specs.declared.metadata.MapEntry.{MapEntry}

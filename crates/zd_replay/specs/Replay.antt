@@ -1,8 +1,7 @@
 -- What a run is promised to report.
-use Rattle.std.specs.Prelude.{◌≡◌, ◌⊎◌, ℕ, ◌+◌, ◌-◌, ◌*◌, ◌/◌, ◌^◌, ◌<◌, ◌≤◌, Bool, true, false, ◌==◌, IsTrue, Option, Some, List, [], ◌∷◌, ◌++◌, length, map, take, count_by}
+use Rattle.std.specs.Prelude.{◌≡◌, ◌⊎◌, ℕ, ◌+◌, ◌-◌, ◌/◌, ◌^◌, ◌<◌, ◌≤◌, Bool, true, false, ◌==◌, IsTrue, Option, Some, List, [], ◌∷◌, ◌++◌, length, map, count_by}
 use Rattle.std.specs.List.{list_any}
 use Rattle.zd_base.specs.Faults.{Rose}
-use Rattle.zd_base.specs.Geometry.{Shape}
 use Rattle.zd_base.specs.declared.numbers.Why.TheVariants as whys
 use Rattle.zd_model.specs.Image.{Image}
 use Rattle.zd_model.specs.Plain.{Answer}
@@ -18,8 +17,8 @@ use Rattle.zd_model.specs.declared.texts.Outcome.TheVariants as outcomes
 use Rattle.zd_replay.specs.Words.{is_command}
 use Rattle.zd_replay.specs.declared.script.ScriptFault.{ScriptFault}
 use Rattle.zd_replay.specs.declared.script.ScriptFault.TheVariants as scripts
-use Rattle.zd_replay.specs.declared.tables.OpenFault.{OpenFault}
-use Rattle.zd_replay.specs.declared.tables.OpenFault.TheVariants as opens
+use Rattle.zd_replay.specs.declared.opening.OpenFault.{OpenFault}
+use Rattle.zd_replay.specs.declared.opening.OpenFault.TheVariants as opens
 use Rattle.zd_replay.specs.Reads.{IsScriptOfReads, IsNoScriptOfReads}
 use Rattle.zd_replay.specs.Opening.{Opens, IsWritten, RefusesHead, base_of}
 

@@ -1,5 +1,5 @@
 -- Which words are a command.
-use Rattle.std.specs.Prelude.{◌≡◌, if◌then◌else◌, slice_get, Option, None, ℕ, Bool, true, false, not, ◌&&◌, ◌==◌, IsTrue, List, [], ◌∷◌}
+use Rattle.std.specs.Prelude.{◌≡◌, if◌then◌else◌, slice_get, Option, None, ℕ, Bool, false, not, ◌&&◌, ◌==◌, List, [], ◌∷◌}
 
 -- it begins with a minus, and isn't a minus alone
 abbrev pub is_option : List ℕ → Bool

@@ -11,10 +11,10 @@ ghost use Rattle.zd_replay.specs.Reads.{IsNoScriptOfReads, IsScriptOfReads};
 ghost use Rattle.zd_replay.specs.Replay.{IsCommand, IsRunnable, IsReadPlan, script_outcome, open_outcome, IsHistory, IsRight, IsFaultless, IsTaken, IsStatus, IsSessionStatus, Reports, WhereAllTold, fault_count, no_memory};
 ghost use Rattle.zd_replay.specs.Run.{AnswersZeros};
 
+use crate::opening::{OpenFault, Opened, open};
 use crate::report::{tell_all, tell_alone};
 use crate::run::run;
 use crate::script::{ScriptFault, plan_of, read_all};
-use crate::tables::{OpenFault, Opened, open};
 use crate::words::is_command;
 use std::alloc::Global;
 use zd_base::{Status, Why};

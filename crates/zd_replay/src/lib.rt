@@ -2,11 +2,14 @@
 #![tactic(auto)]
 
 mod alone;
+mod blocks;
+mod head;
+mod map;
 mod number;
+mod opening;
 mod report;
 mod run;
 mod script;
-mod tables;
 mod words;
 
 pub use alone::replay_alone;

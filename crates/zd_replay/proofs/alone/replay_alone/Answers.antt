@@ -1,8 +1,7 @@
-use Rattle.std.proofs.Common.{◌≡◌, ◌∙◌, sym, ap, subst, inl, inr, refl, arith, map, List, ℕ}
+use Rattle.std.proofs.Common.{◌≡◌, ◌∙◌, sym, subst, inl, inr, refl, arith, map}
 use Rattle.std.specs.Prelude.{string_bytes}
 use Rattle.std.proofs.lemmas.Bool.{false≢true}
 use Rattle.zd_model.specs.declared.texts.Outcome.TheVariants as outcomes
-use Rattle.zd_model.specs.Report.{status_of}
 use Rattle.zd_replay.specs.Replay.{Ends, IsCommand, IsSessionStatus}
 use Rattle.zd_replay.proofs.ReportLaws.{reports_alone, ends_unread, unread, no_usage}
 use Rattle.zd_replay.proofs.CompleteLaws.{complete}

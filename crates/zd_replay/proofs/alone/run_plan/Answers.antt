@@ -1,9 +1,8 @@
-use Rattle.std.proofs.Common.{◌≡◌, ◌≤◌, ◌*◌, List, refl, sym, ap, ◌∙◌, arith, map, take, length}
+use Rattle.std.proofs.Common.{◌≡◌, ◌≤◌, ◌*◌, List, refl, ap, ◌∙◌, arith, map, take, length}
 use Rattle.zd_base.specs.Layout.{device_blocks}
-use Rattle.zd_model.specs.History.{HistoryEntry}
 use Rattle.zd_model.specs.Pieces.{pieces_of}
 use Rattle.zd_model.specs.declared.requests.Piece.{Piece}
-use Rattle.zd_replay.specs.Replay.{IsHistory, fault_count}
+use Rattle.zd_replay.specs.Replay.{fault_count}
 use Rattle.zd_replay.specs.Run.{zeros_for}
 use Rattle.zd_replay.proofs.ReportLaws.{nothing}
 use Rattle.zd_replay.proofs.RunLaws.{entered, all_zeros, no_faults}

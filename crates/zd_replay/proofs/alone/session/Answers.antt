@@ -1,6 +1,4 @@
 use Rattle.std.proofs.Common.{◌∙◌, sym, subst, inr}
-use Rattle.zd_model.specs.declared.requests.Ending.{Ending}
-use Rattle.zd_model.specs.declared.texts.Outcome.{Outcome}
 use Rattle.zd_model.specs.declared.texts.Outcome.TheVariants as outcomes
 use Rattle.zd_replay.specs.Replay.{Ends}
 use Rattle.zd_replay.proofs.ReportLaws.{reports, reports_alone, ends_unopened, unopened, ends_run, history_of}

@@ -1,10 +1,10 @@
-use Rattle.std.proofs.Common.{◌≡◌, ◌++◌, List, ℕ, sym, ◌∙◌, ap, arith, take, ◌≤◌}
+use Rattle.std.proofs.Common.{◌++◌, List, ℕ, sym, ◌∙◌, ap, arith, ◌≤◌}
 use Rattle.std.specs.List.{flat_map}
-use Rattle.std.specs.Prelude.{string_bytes, length}
+use Rattle.std.specs.Prelude.{length}
 use Rattle.std.proofs.lemmas.List.{take_all}
 use Rattle.zd_model.specs.Entries.{entry_of}
 use Rattle.zd_model.specs.History.{HistoryEntry}
-use Rattle.zd_model.specs.Report.{entry_text, outcome_text, output}
+use Rattle.zd_model.specs.Report.{entry_text, output}
 use Rattle.zd_replay.proofs.SinkLaws.{flat_map_found}
 use Rattle.zd_replay.proofs.report.text_of.Goals as goal
 

@@ -1,4 +1,4 @@
-use Rattle.std.proofs.Common.{◌≡◌, ◌+◌, ◌-◌, ◌≤◌, drop, length, arith, length-take, length-drop, sym, ◌∙◌}
+use Rattle.std.proofs.Common.{◌+◌, ◌-◌, ◌≤◌, drop, length, arith, length-take, length-drop, ◌∙◌}
 use Rattle.std.proofs.lemmas.Bool.{false≢true}
 use Rattle.zd_replay.proofs.SinkLaws.{held_more, took_front, drop_all}
 use Rattle.zd_replay.proofs.report.write_all.Goals as goal

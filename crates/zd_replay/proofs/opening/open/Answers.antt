@@ -6,7 +6,7 @@ use Rattle.zd_model.specs.Image.{Image}
 use Rattle.zd_model.specs.Volume.{good_super}
 use Rattle.zd_model.specs.declared.metadata.Super.{Super}
 use Rattle.zd_replay.specs.Opening.{HasFirstSet}
-use Rattle.zd_replay.proofs.tables.open.Goals as goal
+use Rattle.zd_replay.proofs.opening.open.Goals as goal
 
 -- a good super block that fits is that of the first set
 first_set : (g : Shape) (image : Image) (head : Option Super) (s : Super) → g ≡ image.geometry → good_super image 0 ≡ head → (head ≡ Some s) × Fits g s.layout → HasFirstSet image s

@@ -1,6 +1,6 @@
 use Rattle.std.proofs.Common.{arith}
 use Rattle.zd_replay.proofs.OpeningLaws.{one_mapped}
-use Rattle.zd_replay.proofs.tables.mapped_in.Goals as goal
+use Rattle.zd_replay.proofs.map.mapped_in.Goals as goal
 
 pub returns-in-Some-clause-found : goal.returns-in-Some-clause-found
 returns-in-Some-clause-found g c image e =
