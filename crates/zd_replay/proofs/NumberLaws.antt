@@ -18,6 +18,7 @@ pub record BeginsDigits (text : List ℕ) (count : ℕ) : Type 0 where
   pub digits : All IsAsciiDigit (take count text)
   pub ends : BeginsOther (drop count text)
 
+-- digits by index are digits one by one
 pub all_digits : (xs : List ℕ) → All IsAsciiDigit xs → AllDigits xs
 all_digits [] h = tt
 all_digits (x ∷ xs) h =
@@ -32,27 +33,32 @@ one_text : (most n : ℕ) (b : Bool) → nat_lt n 10 ≡ b → n < 10 → tested
 one_text most n true e h = refl
 one_text most n false e h = absurd (let large = ltb-false n 10 e in omega arith)
 
-more_text : (most n : ℕ) (b : Bool) → nat_lt n 10 ≡ b → 10 ≤ n → tested b most n ≡ last_digits most (n / 10) ++ (48 + n % 10) ∷ []
+more_text : (most n : ℕ) (b : Bool) → nat_lt n 10 ≡ b → 10 ≤ n
+    → tested b most n ≡ last_digits most (n / 10) ++ (48 + n % 10) ∷ []
 more_text most n true e h = absurd (let small = ltb-true n 10 e in omega arith)
 more_text most n false e h = refl
 
 -- how many digits there may be doesn't matter where there are enough
-same_tested : (k l n : ℕ) (b : Bool) → nat_lt n 10 ≡ b → n < suc k → n < suc l → ((m : ℕ) → m < k → m < l → last_digits k m ≡ last_digits l m) → tested b k n ≡ tested b l n
+same_tested : (k l n : ℕ) (b : Bool) → nat_lt n 10 ≡ b → n < suc k → n < suc l
+    → ((m : ℕ) → m < k → m < l → last_digits k m ≡ last_digits l m) → tested b k n ≡ tested b l n
 same_tested k l n true e h g same = refl
-same_tested k l n false e h g same = let large = ltb-false n 10 e in ap (λ xs. xs ++ (48 + n % 10) ∷ []) (same (n / 10) (omega arith) (omega arith))
+same_tested k l n false e h g same =
+    let large = ltb-false n 10 e in ap (λ xs. xs ++ (48 + n % 10) ∷ []) (same (n / 10) (omega arith) (omega arith))
 
 last_digits-same : (k l n : ℕ) → n < k → n < l → last_digits k n ≡ last_digits l n
 last_digits-same zero l n h g = absurd (omega arith)
 last_digits-same (suc k) zero n h g = absurd (omega arith)
 last_digits-same (suc k) (suc l) n h g = same_tested k l n (nat_lt n 10) refl h g (last_digits-same k l)
 
+-- a number below 10 has one digit
 pub numeral_one : (n : ℕ) → n < 10 → numeral n ≡ (48 + n) ∷ []
 unfolding numeral
 numeral_one n h = rw add-one (one_text n n (nat_lt n 10) refl h)
 
 numeral_last : (n : ℕ) → 10 ≤ n → numeral n ≡ numeral (n / 10) ++ (48 + n % 10) ∷ []
 unfolding numeral
-numeral_last n h = rw (add-one n) (more_text n n (nat_lt n 10) refl h ∙ ap (λ xs. xs ++ (48 + n % 10) ∷ []) (last_digits-same n (n / 10 + 1) (n / 10) (omega arith) (omega arith)))
+numeral_last n h =
+    rw (add-one n) (more_text n n (nat_lt n 10) refl h ∙ ap (λ xs. xs ++ (48 + n % 10) ∷ []) (last_digits-same n (n / 10 + 1) (n / 10) (omega arith) (omega arith)))
 
 numeral-push : (n c : ℕ) → 0 < n → IsDigit c → numeral n ++ c ∷ [] ≡ numeral (n * 10 + (c - 48))
 numeral-push n c h digit =
@@ -62,7 +68,8 @@ numeral-push n c h digit =
     sym (numeral_last m (omega arith) ∙ ap₂ (λ (k b : ℕ). numeral k ++ b ∷ []) front last)
 
 -- more digits behind a number that isn't 0
-numeral-after : (n : ℕ) (digits : List ℕ) → 0 < n → AllDigits digits → numeral n ++ digits ≡ numeral (value_after n digits)
+numeral-after : (n : ℕ) (digits : List ℕ) → 0 < n → AllDigits digits
+    → numeral n ++ digits ≡ numeral (value_after n digits)
 numeral-after n [] h all = append-nil (numeral n)
 numeral-after n (c ∷ digits) h all =
     sym (append_assoc (numeral n) (c ∷ []) digits) ∙ ap (λ xs. xs ++ digits) (numeral-push n c h all.0)
@@ -78,7 +85,9 @@ one_digit (c ∷ []) all one =
     let back : 48 + (c - 48) ≡ c = omega arith in
     rw value (numeral_one (c - 48) (omega arith) ∙ ap (λ (b : ℕ). b ∷ []) back)
 
-pub more_digits : (xs : List ℕ) → All IsAsciiDigit xs → 0 < length xs → get_or xs 0 0 ≢ 48 → numeral (value_after 0 xs) ≡ xs
+-- digits without a zero in front are their number's text
+pub more_digits : (xs : List ℕ) → All IsAsciiDigit xs → 0 < length xs → get_or xs 0 0 ≢ 48
+    → numeral (value_after 0 xs) ≡ xs
 more_digits [] all some first = absurd (omega arith)
 more_digits (c ∷ xs) all some first =
     let digits = all_digits (c ∷ xs) all in
@@ -87,7 +96,9 @@ more_digits (c ∷ xs) all some first =
     let back : 48 + (c - 48) ≡ c = omega arith in
     rw value (sym (ap (λ (b : ℕ). b ∷ xs) (sym back) ∙ ap (λ ys. ys ++ xs) (sym (numeral_one (c - 48) (omega arith))) ∙ numeral-after (c - 48) xs (omega arith) digits.1))
 
-pub value_after-push : (n : ℕ) (digits : List ℕ) (c : ℕ) → value_after n (digits ++ c ∷ []) ≡ value_after n digits * 10 + (c - 48)
+-- one more digit
+pub value_after-push : (n : ℕ) (digits : List ℕ) (c : ℕ)
+    → value_after n (digits ++ c ∷ []) ≡ value_after n digits * 10 + (c - 48)
 value_after-push n [] c = refl
 value_after-push n (d ∷ digits) c = value_after-push (n * 10 + (d - 48)) digits c
 
@@ -98,7 +109,8 @@ record Head (xs : List ℕ) : Type 0 where
   is : xs ≡ first ∷ others
   large : 48 < first
 
-head_tested : (most n : ℕ) (b : Bool) → nat_lt n 10 ≡ b → 0 < n → n < suc most → ((m : ℕ) → 0 < m → m < most → Head (last_digits most m)) → Head (tested b most n)
+head_tested : (most n : ℕ) (b : Bool) → nat_lt n 10 ≡ b → 0 < n → n < suc most
+    → ((m : ℕ) → 0 < m → m < most → Head (last_digits most m)) → Head (tested b most n)
 head_tested most n true e h g head = record { first = 48 + n; others = []; is = refl; large = omega arith }
 head_tested most n false e h g head =
     let large = ltb-false n 10 e in
@@ -109,6 +121,7 @@ last_digits-head : (most n : ℕ) → 0 < n → n < most → Head (last_digits m
 last_digits-head zero n h g = absurd (omega arith)
 last_digits-head (suc most) n h g = head_tested most n (nat_lt n 10) refl h g (last_digits-head most)
 
+-- the text of 0
 pub numeral_zero : numeral 0 ≡ 48 ∷ []
 unfolding numeral
 numeral_zero = refl
@@ -117,7 +130,8 @@ numeral_zero = refl
 pub numeral_full : (n : ℕ) → numeral n ≡ [] → ⊥
 unfolding numeral
 numeral_full zero e = cc
-numeral_full (suc n) e = let head = last_digits-head (suc n + 1) (suc n) (omega arith) (omega arith) in let is = head.is in cc
+numeral_full (suc n) e =
+    let head = last_digits-head (suc n + 1) (suc n) (omega arith) (omega arith) in let is = head.is in cc
 
 -- a zero in front is the whole number
 pub no_zero_in_front : (n : ℕ) (xs : List ℕ) → numeral n ≡ xs → 1 < length xs → get_or xs 0 0 ≡ 48 → ⊥
@@ -137,14 +151,17 @@ pub record IsFront (text : List ℕ) (count n : ℕ) (rest : List ℕ) : Type 0 
 where_other : (byte : ℕ) → (IsAsciiDigit byte → ⊥) → IsDigit byte → ⊥
 where_other byte other digit = let high = digit.high in other (digit.low, omega arith)
 
-ends_same : (xs ys rest more : List ℕ) → AllDigits xs → AllDigits ys → BeginsOther rest → BeginsOther more → xs ++ rest ≡ ys ++ more → (xs ≡ ys) × (rest ≡ more)
+ends_same : (xs ys rest more : List ℕ) → AllDigits xs → AllDigits ys → BeginsOther rest → BeginsOther more
+    → xs ++ rest ≡ ys ++ more → (xs ≡ ys) × (rest ≡ more)
 ends_same xs ys [] more all each out over e = absurd out
 ends_same xs ys (s ∷ rest) [] all each out over e = absurd over
 ends_same xs ys (s ∷ rest) (t ∷ more) all each out over e =
     let same = same_ends xs ys s t rest more all each (where_other s out) (where_other t over) e in
     (same.digits, ap₂ (λ (z : ℕ) (zs : List ℕ). z ∷ zs) same.byte same.after)
 
-pub number_is_front : (text : List ℕ) (count n : ℕ) (rest : List ℕ) → BeginsDigits text count → HasNumber text n rest → IsFront text count n rest
+-- a number with no digit behind it is all the digits in front
+pub number_is_front : (text : List ℕ) (count n : ℕ) (rest : List ℕ) → BeginsDigits text count → HasNumber text n rest
+    → IsFront text count n rest
 number_is_front text count n rest begins has =
     let same = ends_same (numeral n) (take count text) rest (drop count text) (numeral-writes n).digits (all_digits (take count text) begins.digits) has.ends begins.ends (sym has.is ∙ sym (take-append-drop count text)) in
     record { digits = same.0; after = same.1 }
@@ -158,16 +175,19 @@ no_number text n rest all has = by_end rest has.ends has.is
     by_end (s ∷ more) ends is = no_end (numeral n) s more text all (where_other s ends) (sym is)
 
 -- one number stands in front
-pub same_number : (text : List ℕ) (m n : ℕ) (rest more : List ℕ) → HasNumber text m rest → HasNumber text n more → (m ≡ n) × (rest ≡ more)
+pub same_number : (text : List ℕ) (m n : ℕ) (rest more : List ℕ) → HasNumber text m rest → HasNumber text n more
+    → (m ≡ n) × (rest ≡ more)
 same_number text m n rest more one two = by_ends rest more one.ends two.ends (sym one.is ∙ two.is)
   where
-    by_ends : (xs ys : List ℕ) → BeginsOther xs → BeginsOther ys → numeral m ++ xs ≡ numeral n ++ ys → (m ≡ n) × (xs ≡ ys)
+    by_ends : (xs ys : List ℕ) → BeginsOther xs → BeginsOther ys → numeral m ++ xs ≡ numeral n ++ ys
+        → (m ≡ n) × (xs ≡ ys)
     by_ends [] ys out over e = absurd out
     by_ends (s ∷ xs) [] out over e = absurd over
     by_ends (s ∷ xs) (t ∷ ys) out over e =
         let same = same_numeral m n s t xs ys (where_other s out) (where_other t over) e in
         (same.number, ap₂ (λ (z : ℕ) (zs : List ℕ). z ∷ zs) same.byte same.after)
 
+-- what holds anyway holds where there is no value
 pub where_none : {X : Type 0} (o : Option X) (P : Type 0) → P → IfNone o P
 where_none None P h = h
 where_none (Some x) P h = tt
@@ -181,7 +201,8 @@ is_digit c e = grind (arith, nat_tests)
 no_digit : (c : ℕ) → other c ≡ true → IsAsciiDigit c → ⊥
 no_digit c e digit = grind (arith, nat_tests)
 
-in_front : (text : List ℕ) (i k d : ℕ) → k < length (take i text) → i < length text → IsAsciiDigit (get_or text k 0) → IsAsciiDigit (get_or (take i text) k d)
+in_front : (text : List ℕ) (i k d : ℕ) → k < length (take i text) → i < length text → IsAsciiDigit (get_or text k 0)
+    → IsAsciiDigit (get_or (take i text) k d)
 in_front text i k d l h digit =
     let before : k < i = omega (arith, length-take {A = ℕ}) in
     subst IsAsciiDigit (sym (get_or-take i text k d before ∙ get_or_default text k d 0 (omega arith))) digit
@@ -196,9 +217,12 @@ begins_digits text count e =
       ends = subst BeginsOther (sym (drop-cons text count 0 first.0)) (no_digit (get_or text count 0) first.1);
     }
 
-first_is_digit : (x i : ℕ) (xs : List ℕ) (b : Bool) → other x ≡ b → cond b (Some i) (position_from other (i + 1) xs) ≡ None → (position_from other (i + 1) xs ≡ None → AllDigits xs) → AllDigits (x ∷ xs)
+first_is_digit : (x i : ℕ) (xs : List ℕ) (b : Bool) → other x ≡ b
+    → cond b (Some i) (position_from other (i + 1) xs) ≡ None → (position_from other (i + 1) xs ≡ None → AllDigits xs)
+    → AllDigits (x ∷ xs)
 first_is_digit x i xs true is e others = absurd (let f : ⊥ = cc in f)
-first_is_digit x i xs false is e others = let digit = is_digit x is in (record { low = digit.0; high = omega (arith, digit.1) }, others e)
+first_is_digit x i xs false is e others =
+    let digit = is_digit x is in (record { low = digit.0; high = omega (arith, digit.1) }, others e)
 
 all_are_digits : (xs : List ℕ) (i : ℕ) → position_from other i xs ≡ None → AllDigits xs
 all_are_digits [] i e = tt

@@ -23,12 +23,17 @@ alone_text : (outcome : Outcome) → output [] outcome ≡ outcome_text outcome
 unfolding output
 alone_text outcome = refl
 
+-- an outcome's line alone is the whole output where nothing was entered
 pub alone : (outcome : Outcome) (text : List ℕ) (before : List ℕ) (after : Option (List ℕ)) (whole : Type 0)
     → text ≡ outcome_text outcome → Takes before after text whole → Takes before after (output [] outcome) whole
-alone outcome text before after whole is taken = subst (λ (bytes : List ℕ). Takes before after bytes whole) (is ∙ sym (alone_text outcome)) taken
+alone outcome text before after whole is taken =
+    subst (λ (bytes : List ℕ). Takes before after bytes whole) (is ∙ sym (alone_text outcome)) taken
 
-pub for_want_of_memory : (history : List HistoryEntry) (outcome : Outcome) (status : ℕ) (before : List ℕ) (after : Option (List ℕ)) (whole : Type 0)
-    → HasStatus no_memory status → Takes before after (output [] no_memory) whole → Tells history outcome status before after whole
+-- where no memory was found, that alone is told
+pub for_want_of_memory : (history : List HistoryEntry) (outcome : Outcome) (status : ℕ)
+    (before : List ℕ) (after : Option (List ℕ)) (whole : Type 0)
+    → HasStatus no_memory status → Takes before after (output [] no_memory) whole
+    → Tells history outcome status before after whole
 for_want_of_memory history outcome status before after whole answers taken = record {
   entries = [];
   ending = no_memory;
@@ -56,7 +61,9 @@ done (outcomes.NoVolume kind) e = absurd (omega arith)
 done outcomes.Source e = absurd (omega arith)
 done outcomes.NotBuilt e = absurd (omega arith)
 
-pub done_where : (outcome : Outcome) (status : ℕ) → HasStatus outcome status → status ≡ 0 → outcome ≡ outcomes.Ended endings.Ok
+-- status 0 comes with the outcome of a run in which all was done
+pub done_where : (outcome : Outcome) (status : ℕ) → HasStatus outcome status → status ≡ 0
+    → outcome ≡ outcomes.Ended endings.Ok
 done_where outcome status (inl same) zero_is = done outcome (sym same ∙ zero_is)
 done_where outcome status (inr failed) zero_is = failed.1
 
@@ -64,7 +71,9 @@ not_memory : no_memory ≡ outcomes.Ended endings.Ok → ⊥
 not_memory e = let f = ap status_of e in omega arith
 
 -- what was told of a run is its report
-pub reports : (words : List (List ℕ)) (bytes : List ℕ) (image : Image) (plan : List Request) (history : List HistoryEntry) (outcome : Outcome) (status faults now : ℕ) (before : List ℕ) (after : Option (List ℕ)) (whole : Type 0)
+pub reports : (words : List (List ℕ)) (bytes : List ℕ) (image : Image) (plan : List Request)
+    (history : List HistoryEntry) (outcome : Outcome) (status faults now : ℕ)
+    (before : List ℕ) (after : Option (List ℕ)) (whole : Type 0)
     → IsCommand words → IsScriptOfReads bytes plan → Ends bytes image outcome
     → IsHistory image plan history (outcome ≡ outcomes.Ended endings.Ok) → fault_count history ≡ 0 → faults ≤ now
     → Tells history outcome status before after whole
@@ -101,7 +110,8 @@ reports words bytes image plan history outcome status faults now before after wh
         record { legal = h.legal; ordered = h.ordered; all = λ zero_is. h.all (sym ending ∙ done_where t.ending status t.answers zero_is) }
 
 -- the report of a run that ended before anything was entered
-pub reports_alone : (words : List (List ℕ)) (bytes : List ℕ) (image : Image) (outcome : Outcome) (status faults now : ℕ) (before : List ℕ) (after : Option (List ℕ)) (whole : Type 0)
+pub reports_alone : (words : List (List ℕ)) (bytes : List ℕ) (image : Image) (outcome : Outcome)
+    (status faults now : ℕ) (before : List ℕ) (after : Option (List ℕ)) (whole : Type 0)
     → Comes words bytes image outcome → (outcome ≡ outcomes.Ended endings.Ok → ⊥) → faults ≤ now
     → HasStatus outcome status → Takes before after (output [] outcome) whole
     → Reports words bytes image status faults now before after whole
@@ -118,12 +128,14 @@ reports_alone words bytes image outcome status faults now before after whole cau
 }
 
 -- a disk that can't be opened ends the run so
-pub ends_unopened : (fault : OpenFault) (bytes : List ℕ) (image : Image) → IsRunnable bytes → Explains fault image → Ends bytes image (open_outcome fault)
+pub ends_unopened : (fault : OpenFault) (bytes : List ℕ) (image : Image) → IsRunnable bytes → Explains fault image
+    → Ends bytes image (open_outcome fault)
 ends_unopened opens.Device bytes image script why = script
 ends_unopened (opens.NoVolume kind) bytes image script why = (script, why)
 ends_unopened opens.NotBuilt bytes image script why = inr (script, why)
 ends_unopened opens.Memory bytes image script why = tt
 
+-- a disk that isn't opened isn't the outcome of a run in which all was done
 pub unopened : (fault : OpenFault) → open_outcome fault ≡ outcomes.Ended endings.Ok → ⊥
 unopened opens.Device e = let f = ap status_of e in omega arith
 unopened (opens.NoVolume kind) e = let f = ap status_of e in omega arith
@@ -131,26 +143,37 @@ unopened opens.NotBuilt e = let f = ap status_of e in omega arith
 unopened opens.Memory e = let f = ap status_of e in omega arith
 
 -- a script that can't be run ends the run so
-pub ends_unread : (fault : ScriptFault) (bytes : List ℕ) (image : Image) → (fault ≡ scripts.NotReads → IsNoScriptOfReads bytes) → Ends bytes image (script_outcome fault)
+pub ends_unread : (fault : ScriptFault) (bytes : List ℕ) (image : Image)
+    → (fault ≡ scripts.NotReads → IsNoScriptOfReads bytes) → Ends bytes image (script_outcome fault)
 ends_unread scripts.Source bytes image why = tt
 ends_unread scripts.NotReads bytes image why = inl (why refl)
 ends_unread scripts.Memory bytes image why = tt
 
+-- nor is a script that can't be run
 pub unread : (fault : ScriptFault) → script_outcome fault ≡ outcomes.Ended endings.Ok → ⊥
 unread scripts.Source e = let f = ap status_of e in omega arith
 unread scripts.NotReads e = let f = ap status_of e in omega arith
 unread scripts.Memory e = let f = ap status_of e in omega arith
 
 -- a session ends so
-pub ends_run : (ending : Ending) (bytes : List ℕ) (image : Image) → (ending ≡ endings.Ok) ⊎ (ending ≡ endings.Stopped whys.Memory) → IsRunnable bytes → Opens image → Ends bytes image (outcomes.Ended ending)
-ends_run ending bytes image (inl ok) script opened = subst (λ (e : Ending). Ends bytes image (outcomes.Ended e)) (sym ok) (script, opened)
-ends_run ending bytes image (inr stopped) script opened = subst (λ (e : Ending). Ends bytes image (outcomes.Ended e)) (sym stopped) tt
+pub ends_run : (ending : Ending) (bytes : List ℕ) (image : Image)
+    → (ending ≡ endings.Ok) ⊎ (ending ≡ endings.Stopped whys.Memory) → IsRunnable bytes → Opens image
+    → Ends bytes image (outcomes.Ended ending)
+ends_run ending bytes image (inl ok) script opened =
+    subst (λ (e : Ending). Ends bytes image (outcomes.Ended e)) (sym ok) (script, opened)
+ends_run ending bytes image (inr stopped) script opened =
+    subst (λ (e : Ending). Ends bytes image (outcomes.Ended e)) (sym stopped) tt
 
 ended : (e f : Ending) → outcomes.Ended e ≡ outcomes.Ended f → e ≡ f
 ended e f h = cc
 
-pub history_of : (image : Image) (plan : List Request) (history : List HistoryEntry) (ending : Ending) → IsHistory image plan history (ending ≡ endings.Ok) → IsHistory image plan history (outcomes.Ended ending ≡ outcomes.Ended endings.Ok)
-history_of image plan history ending h = record { legal = h.legal; ordered = h.ordered; all = λ e. h.all (ended ending endings.Ok e) }
+-- a history with all its pieces where the ending is `ok` has them where the outcome is
+pub history_of : (image : Image) (plan : List Request) (history : List HistoryEntry) (ending : Ending)
+    → IsHistory image plan history (ending ≡ endings.Ok)
+    → IsHistory image plan history (outcomes.Ended ending ≡ outcomes.Ended endings.Ok)
+history_of image plan history ending h =
+    record { legal = h.legal; ordered = h.ordered; all = λ e. h.all (ended ending endings.Ok e) }
 
+-- nor are wrong words
 pub no_usage : outcomes.Usage ≡ outcomes.Ended endings.Ok → ⊥
 no_usage e = let f = ap status_of e in omega arith

@@ -1,5 +1,6 @@
 -- What a run is promised to report.
-use Rattle.std.specs.Prelude.{◌≡◌, ◌⊎◌, ℕ, ◌+◌, ◌-◌, ◌/◌, ◌^◌, ◌<◌, ◌≤◌, Bool, true, false, ◌==◌, IsTrue, Option, Some, List, [], ◌∷◌, ◌++◌, length, map, count_by}
+use Rattle.std.specs.Prelude.{◌≡◌, ◌⊎◌, ℕ, ◌+◌, ◌-◌, ◌/◌, ◌^◌, ◌<◌, ◌≤◌, Bool, true, false, ◌==◌, IsTrue}
+use Rattle.std.specs.Prelude.{Option, Some, List, [], ◌∷◌, ◌++◌, length, map, count_by}
 use Rattle.std.specs.List.{list_any}
 use Rattle.zd_base.specs.Faults.{Rose}
 use Rattle.zd_base.specs.declared.numbers.Why.TheVariants as whys
@@ -44,7 +45,8 @@ Ends bytes image (outcomes.Ended (endings.Stopped whys.Generation)) = ⊥
 
 -- the words decide first
 abbrev pub Comes : List (List ℕ) → List ℕ → Image → Outcome → Type 0
-Comes words bytes image outcome = ((IsCommand words → ⊥) × (outcome ≡ outcomes.Usage)) ⊎ (IsCommand words × Ends bytes image outcome)
+Comes words bytes image outcome =
+    ((IsCommand words → ⊥) × (outcome ≡ outcomes.Usage)) ⊎ (IsCommand words × Ends bytes image outcome)
 
 -- the status is that of the outcome; only where all was done may it be 6 instead
 abbrev pub HasStatus : Outcome → ℕ → Type 0
@@ -77,7 +79,8 @@ IsTaken status before now = (status ≡ 0) ⊎ IsFaultless before now
 -- each caller's entries are all of its pieces
 abbrev pub IsWhole : ℕ → ℕ → List Request → List HistoryEntry → Type 0
 IsWhole z blocks plan history = (caller : ℕ) →
-    marks_of_caller caller (map mark_of_entry history) ≡ marks_of_caller caller (map mark_of_piece (pieces_of z blocks plan))
+    marks_of_caller caller (map mark_of_entry history)
+    ≡ marks_of_caller caller (map mark_of_piece (pieces_of z blocks plan))
 
 abbrev pub is_fault : Answer → Bool
 is_fault (Got bytes) = false
@@ -108,7 +111,8 @@ pub record AreCounted (history : List HistoryEntry) (before after : ℕ) : Type 
   pub none : IsFaultless before after → fault_count history ≡ 0
 
 -- there is a history and an outcome, and what the sink took is their text
-pub record Reports (words : List (List ℕ)) (bytes : List ℕ) (image : Image) (status faults now : ℕ) (before : List ℕ) (after : Option (List ℕ)) (whole : Type 0) : Type 0 where
+pub record Reports (words : List (List ℕ)) (bytes : List ℕ) (image : Image) (status faults now : ℕ)
+    (before : List ℕ) (after : Option (List ℕ)) (whole : Type 0) : Type 0 where
   pub plan : List Request
   pub history : List HistoryEntry
   pub outcome : Outcome
@@ -122,7 +126,9 @@ pub record Reports (words : List (List ℕ)) (bytes : List ℕ) (image : Image) 
 
 -- where the disk tells its zones, the source its bytes and the sink what it took
 abbrev pub WhereAllTold : Option Image → Option (List ℕ) → Option (List ℕ) → (Image → List ℕ → List ℕ → Type 0) → Type 0
-WhereAllTold zones left held P = (image : Image) (bytes before : List ℕ) → zones ≡ Some image → left ≡ Some bytes → held ≡ Some before → P image bytes before
+WhereAllTold zones left held P =
+    (image : Image) (bytes before : List ℕ)
+    → zones ≡ Some image → left ≡ Some bytes → held ≡ Some before → P image bytes before
 
 -- a plan that is written in some script that can be run
 abbrev pub IsReadPlan : List Request → Type 0
@@ -133,7 +139,8 @@ abbrev pub no_memory : Outcome
 no_memory = outcomes.Ended (endings.Stopped whys.Memory)
 
 -- what was told: this history and outcome, or none where no memory was found for their text
-pub record Tells (history : List HistoryEntry) (outcome : Outcome) (status : ℕ) (before : List ℕ) (after : Option (List ℕ)) (whole : Type 0) : Type 0 where
+pub record Tells (history : List HistoryEntry) (outcome : Outcome) (status : ℕ)
+    (before : List ℕ) (after : Option (List ℕ)) (whole : Type 0) : Type 0 where
   pub entries : List HistoryEntry
   pub ending : Outcome
   pub which : ((entries ≡ history) × (ending ≡ outcome)) ⊎ ((entries ≡ []) × (ending ≡ no_memory))

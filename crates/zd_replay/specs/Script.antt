@@ -9,7 +9,8 @@ use Rattle.zd_replay.specs.declared.script.Limits.{Limits}
 -- n more bytes of those that were left were read; none only at their end
 pub record ReadsOn (left after : Option (List ℕ)) (n : ℕ) (all more : List ℕ) : Type 0 where
   pub count : length more ≡ length all + n
-  pub front : (bytes : List ℕ) → left ≡ Some bytes → (rest : List ℕ) × (after ≡ Some rest) × (more ++ rest ≡ all ++ bytes)
+  pub front : (bytes : List ℕ) → left ≡ Some bytes
+      → (rest : List ℕ) × (after ≡ Some rest) × (more ++ rest ≡ all ++ bytes)
   pub end : n ≡ 0 → (bytes : List ℕ) → left ≡ Some bytes → bytes ≡ []
 
 -- a read by caller 0 whose numbers are within their bounds

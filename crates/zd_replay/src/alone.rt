@@ -1,14 +1,16 @@
 //! A run by one caller, from words and bytes to the report.
 
-ghost use Rattle.std.specs.Prelude.{◌≡◌, ◌⊎◌, ◌↔◌, ◌≤◌, ◌==◌, ℕ, List, [], ◌∷◌, map, string_bytes, IfOk, Err, IsTrue};
-ghost use Rattle.std.specs.List.{AllByRecursion, list_any};
+ghost use Rattle.std.specs.Prelude.{◌≡◌, ◌⊎◌, ◌↔◌, ◌≤◌, ℕ, List, map, string_bytes, IfOk, Err};
+ghost use Rattle.std.specs.List.{AllByRecursion};
 ghost use Rattle.zd_base.specs.Faults.{Rose};
 ghost use Rattle.zd_base.specs.Layout.{Fits};
 ghost use Rattle.zd_disk.specs.Told.{WhereTold};
 ghost use Rattle.zd_model.specs.Image.{Image};
-ghost use Rattle.zd_replay.specs.Opening.{IsOpened, Opens};
+ghost use Rattle.zd_replay.specs.Opening.{IsOpened};
 ghost use Rattle.zd_replay.specs.Reads.{IsNoScriptOfReads, IsScriptOfReads};
-ghost use Rattle.zd_replay.specs.Replay.{IsCommand, IsRunnable, IsReadPlan, script_outcome, open_outcome, IsHistory, IsRight, IsFaultless, IsTaken, IsStatus, IsSessionStatus, Reports, WhereAllTold, fault_count, no_memory};
+ghost use Rattle.zd_replay.specs.Replay.{IsCommand, IsFaultless, IsReadPlan, IsRight, IsSessionStatus, IsStatus};
+ghost use Rattle.zd_replay.specs.Replay.{IsHistory, IsTaken, Reports, WhereAllTold, fault_count};
+ghost use Rattle.zd_replay.specs.Replay.{open_outcome, script_outcome};
 ghost use Rattle.zd_replay.specs.Run.{AnswersZeros};
 
 use crate::opening::{OpenFault, Opened, open};

@@ -26,6 +26,7 @@ fn first_mapped(block: &[u8], count: usize) -> Option<usize>
     requires size { length block.now ≡ 4096 }
     requires count { count ≤ 512 }
     ensures some { IfSome result (λ i. (i < count) × (entry_at block.now i ≢ unmapped)) }
+    ensures first { IfSome result (λ i. (k : ℕ) → k < i → entry_at block.now k ≡ unmapped) }
     ensures none { IfNone result ((i : ℕ) → i < count → entry_at block.now i ≡ unmapped) }
 {
     for i in 0..count {
@@ -36,7 +37,7 @@ fn first_mapped(block: &[u8], count: usize) -> Option<usize>
     None
 }
 
-/// Reads a block of the map, and finds the first of its chunks that has a zone.
+/// Reads a block of the map, and finds a chunk of it that has a zone, where one has.
 fn mapped_in<D: ZonedDisk>(
     disk: &mut D,
     geometry: &Geometry,
@@ -65,7 +66,7 @@ fn mapped_in<D: ZonedDisk>(
     }
 }
 
-/// Looks at the map entries of all chunks, in order: the first that has a zone.
+/// Looks at the map entries of all chunks, in order, up to one that has a zone.
 pub fn first_chunk<D: ZonedDisk>(
     disk: &mut D,
     geometry: &Geometry,

@@ -9,8 +9,10 @@ use Rattle.zd_replay.proofs.alone.replay_alone.Goals as goal
 
 pub returns-then-not-is_command-clause-report : goal.returns-then-not-is_command-clause-report
 returns-then-not-is_command-clause-report g c image bytes before z left held =
-    reports_alone (map string_bytes c.args.words.now) bytes image outcomes.Usage c.tell_alone.result.0 _ _ before (g.K.Sink.held c.tell_alone.new.out) _
-    (inl ((λ h. false≢true (sym c.if-not-is_command.true ∙ c.is_command.ensures ∙ h)), refl)) no_usage (omega arith) c.tell_alone.ensures.answers (c.tell_alone.ensures.taken before held)
+    reports_alone (map string_bytes c.args.words.now) bytes image outcomes.Usage c.tell_alone.result.0 _ _ before
+    (g.K.Sink.held c.tell_alone.new.out) _
+    (inl ((λ h. false≢true (sym c.if-not-is_command.true ∙ c.is_command.ensures ∙ h)), refl)) no_usage (omega arith)
+    c.tell_alone.ensures.answers (c.tell_alone.ensures.taken before held)
 
 pub returns-in-Err-clause-report : goal.returns-in-Err-clause-report
 returns-in-Err-clause-report g c image bytes before z left held =
@@ -18,8 +20,10 @@ returns-in-Err-clause-report g c image bytes before z left held =
     let right : IsCommand (map string_bytes c.args.words.now) = sym c.is_command.ensures ∙ c.if-not-is_command.false in
     let fault = c.in-Err.fault in
     let ends = subst (Ends bytes image) (sym is) (ends_unread fault bytes image (λ e. c.read_plan.ensures.not_reads (c.in-Err.is ∙ rw e refl) bytes left)) in
-    reports_alone (map string_bytes c.args.words.now) bytes image c.script_outcome.result c.tell_alone-in-Err.result.0 _ _ before (g.K.Sink.held c.tell_alone-in-Err.new.out) _
-    (inr (right, ends)) (λ e. unread fault (sym is ∙ e)) (omega arith) c.tell_alone-in-Err.ensures.answers (c.tell_alone-in-Err.ensures.taken before held)
+    reports_alone (map string_bytes c.args.words.now) bytes image c.script_outcome.result
+    c.tell_alone-in-Err.result.0 _ _ before (g.K.Sink.held c.tell_alone-in-Err.new.out) _
+    (inr (right, ends)) (λ e. unread fault (sym is ∙ e)) (omega arith) c.tell_alone-in-Err.ensures.answers
+    (c.tell_alone-in-Err.ensures.taken before held)
 
 pub returns-clause-complete : goal.returns-clause-complete
 returns-clause-complete g c image bytes before z left held right no_device no_source no_sink =

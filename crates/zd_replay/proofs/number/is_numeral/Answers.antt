@@ -18,7 +18,9 @@ pub returns-in-len1-clause-right : goal.returns-in-len1-clause-right
 returns-in-len1-clause-right c is = one_digit c.args.digits.now c.requires (omega arith)
 
 pub returns-in-len1-up-clause-right : goal.returns-in-len1-up-clause-right
-returns-in-len1-up-clause-right c is = more_digits c.args.digits.now c.requires (omega arith) (is_other (get_or c.args.digits.now 0 0) is)
+returns-in-len1-up-clause-right c is =
+    more_digits c.args.digits.now c.requires (omega arith) (is_other (get_or c.args.digits.now 0 0) is)
 
 pub returns-in-len1-up-clause-wrong : goal.returns-in-len1-up-clause-wrong
-returns-in-len1-up-clause-wrong c n e = other_is (get_or c.args.digits.now 0 0) (no_zero_in_front n c.args.digits.now e (omega arith))
+returns-in-len1-up-clause-wrong c n e =
+    other_is (get_or c.args.digits.now 0 0) (no_zero_in_front n c.args.digits.now e (omega arith))

@@ -6,13 +6,19 @@ use Rattle.zd_replay.proofs.NumberLaws.{where_none, begins_digits, digits_alone,
 use Rattle.zd_replay.proofs.number.number.Goals as goal
 
 pub returns-in_err-digit_count-clause-none : goal.returns-in_err-digit_count-clause-none
-returns-in_err-digit_count-clause-none c = where_none c.from_residual.result _ (λ n rest has. no_number c.args.text.now n rest (digits_alone c.args.text.now c.in_err-digit_count.ensures) has)
+returns-in_err-digit_count-clause-none c =
+    where_none c.from_residual.result _
+    (λ n rest has. no_number c.args.text.now n rest (digits_alone c.args.text.now c.in_err-digit_count.ensures) has)
 
 pub is_numeral-requires : goal.is_numeral-requires
-is_numeral-requires c = subst (All IsAsciiDigit) (sym c.split_at.ensures.front) (begins_digits c.args.text.now c.in_ok-digit_count.field-0 c.in_ok-digit_count.ensures).digits
+is_numeral-requires c =
+    subst (All IsAsciiDigit) (sym c.split_at.ensures.front)
+    (begins_digits c.args.text.now c.in_ok-digit_count.field-0 c.in_ok-digit_count.ensures).digits
 
 pub value_of-requires : goal.value_of-requires
-value_of-requires c = subst (All IsAsciiDigit) (sym c.split_at.ensures.front) (begins_digits c.args.text.now c.in_ok-digit_count.field-0 c.in_ok-digit_count.ensures).digits
+value_of-requires c =
+    subst (All IsAsciiDigit) (sym c.split_at.ensures.front)
+    (begins_digits c.args.text.now c.in_ok-digit_count.field-0 c.in_ok-digit_count.ensures).digits
 
 pub returns-then-not-is_numeral-clause-none : goal.returns-then-not-is_numeral-clause-none
 returns-then-not-is_numeral-clause-none c n rest has =

@@ -19,5 +19,6 @@ returns c =
     let entries = c.args.history.now.items in
     let all : length entries ≤ c.loop-i.i = omega (arith, c.len-i-end.ensures, c.loop-i-test.false) in
     c.in_ok-push_str.ensures.bytes
-    ∙ ap (λ (l : List ℕ). l ++ c.outcome_line.result.now) (c.loop-i.invariant ∙ ap (λ (es : List HistoryEntry). flat_map entry_text es) (take_all c.loop-i.i entries all))
+    ∙ ap (λ (l : List ℕ). l ++ c.outcome_line.result.now)
+    (c.loop-i.invariant ∙ ap (λ (es : List HistoryEntry). flat_map entry_text es) (take_all c.loop-i.i entries all))
     ∙ ap (λ (l : List ℕ). flat_map entry_text entries ++ l) c.outcome_line.ensures

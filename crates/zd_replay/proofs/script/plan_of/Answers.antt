@@ -19,4 +19,5 @@ loop-rest-smaller c = line_shortens c.loop-rest.rest.now c.in-Some.after.now c.i
 pub returns-clause-ok : goal.returns-clause-ok
 returns-clause-ok c =
     let none = there_is_none c.loop-rest.rest.now c.is_empty.result c.is_empty.ensures c.loop-rest-test.false in
-    plan_stands c.args.bytes.now c.loop-rest.plan.items c.loop-rest.rest.now c.loop-rest.limits c.loop-rest.invariant none c.if-bytes-gt-MOST_BYTES.false
+    plan_stands c.args.bytes.now c.loop-rest.plan.items c.loop-rest.rest.now c.loop-rest.limits
+    c.loop-rest.invariant none c.if-bytes-gt-MOST_BYTES.false

@@ -29,7 +29,8 @@ returns-in_err-count-clause-none c = where_none c.from_residual-in_err-count.res
     let front : HasStart text numbers.now = record { is = strip_prefix_is Decides-eqb text start (Some numbers) c.in_ok-strip_prefix.ensures.cases } in
     let found = c.in_ok-block.ensures.found in
     let block = then_block text numbers.now c.in_ok-block.numbers.now found.0 front found.1 in
-    c.in_err-count.ensures.none begins.count rest (block_stands text c.in_ok-block.numbers.now rest found.0 begins block).1)
+    c.in_err-count.ensures.none begins.count rest
+    (block_stands text c.in_ok-block.numbers.now rest found.0 begins block).1)
 
 pub returns-in_err-read_of-clause-none : goal.returns-in_err-read_of-clause-none
 returns-in_err-read_of-clause-none c = where_none c.from_residual-in_err-read_of.result _ (λ r rest right is.
@@ -41,7 +42,8 @@ returns-in_err-read_of-clause-none c = where_none c.from_residual-in_err-read_of
     let last = c.in_ok-count.ensures.found in
     let block = then_block text numbers.now c.in_ok-block.numbers.now found.0 front found.1 in
     let count = then_count text c.in_ok-block.numbers.now c.in_ok-count.rest.now found.0 last.0 block last.1 in
-    c.in_err-read_of.ensures.none (numbers_right text rest c.in_ok-count.rest.now found.0 last.0 c.in_ok-block.block c.in_ok-count.count begins count found.2 last.2))
+    c.in_err-read_of.ensures.none
+    (numbers_right text rest c.in_ok-count.rest.now found.0 last.0 c.in_ok-block.block c.in_ok-count.count begins count found.2 last.2))
 
 pub returns-clause-found : goal.returns-clause-found
 returns-clause-found c =
@@ -53,4 +55,5 @@ returns-clause-found c =
     let block = then_block text numbers.now c.in_ok-block.numbers.now found.0 front found.1 in
     let count = then_count text c.in_ok-block.numbers.now c.in_ok-count.rest.now found.0 last.0 block last.1 in
     let read = c.in_ok-read_of.ensures in
-    line_stands text c.in_ok-count.rest.now found.0 last.0 c.in_ok-block.block c.in_ok-count.count c.in_ok-read_of.field-0 count found.2 last.2 read.found read.numbers
+    line_stands text c.in_ok-count.rest.now found.0 last.0 c.in_ok-block.block c.in_ok-count.count
+    c.in_ok-read_of.field-0 count found.2 last.2 read.found read.numbers
