@@ -21,8 +21,8 @@ use Rattle.zd_model.specs.declared.texts.BadLine.{BadLine}
 use Rattle.zd_script.specs.Fault.{IfBad}
 use Rattle.zd_script.specs.declared.fault.ScriptFault.{ScriptFault}
 use Rattle.zd_script.specs.declared.fault.ScriptFault.TheVariants as scripts
-use Rattle.zd_replay.specs.declared.tables.OpenFault.{OpenFault}
-use Rattle.zd_replay.specs.declared.tables.OpenFault.TheVariants as opens
+use Rattle.zd_replay.specs.declared.opening.OpenFault.{OpenFault}
+use Rattle.zd_replay.specs.declared.opening.OpenFault.TheVariants as opens
 use Rattle.zd_replay.specs.Replay.{Takes, Tells, HasStatus, IsHistory, IsCommand, IsRunnable, Comes, Ends, open_outcome, script_outcome, AreCounted, Reports, fault_count, no_memory}
 
 -- the text of an outcome alone

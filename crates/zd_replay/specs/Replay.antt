@@ -19,8 +19,8 @@ use Rattle.zd_model.specs.declared.texts.Outcome.TheVariants as outcomes
 use Rattle.zd_replay.specs.Words.{is_command}
 use Rattle.zd_script.specs.declared.fault.ScriptFault.{ScriptFault}
 use Rattle.zd_script.specs.declared.fault.ScriptFault.TheVariants as scripts
-use Rattle.zd_replay.specs.declared.tables.OpenFault.{OpenFault}
-use Rattle.zd_replay.specs.declared.tables.OpenFault.TheVariants as opens
+use Rattle.zd_replay.specs.declared.opening.OpenFault.{OpenFault}
+use Rattle.zd_replay.specs.declared.opening.OpenFault.TheVariants as opens
 use Rattle.zd_replay.specs.Reads.{IsScriptOfReads, IsOtherScript}
 use Rattle.zd_replay.specs.Opening.{Opens, IsWritten, RefusesHead, base_of}
 

@@ -1,5 +1,5 @@
 -- What a volume that nobody wrote answers.
-use Rattle.std.specs.Prelude.{ℕ, ◌*◌, Bool, true, false, if◌then◌else◌, replicate, ◌≡◌, ◌≤◌}
+use Rattle.std.specs.Prelude.{◌*◌, if◌then◌else◌, replicate, ◌≡◌, ◌≤◌}
 use Rattle.zd_model.specs.Plain.{Answer}
 use Rattle.zd_model.specs.Plain.Answer.{Got, Range}
 use Rattle.zd_model.specs.Pieces.{block_count}

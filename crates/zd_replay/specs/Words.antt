@@ -1,5 +1,6 @@
 -- Which words are a command.
-use Rattle.std.specs.Prelude.{◌≡◌, if◌then◌else◌, slice_get, Option, None, ℕ, Bool, true, false, not, ◌&&◌, ◌==◌, IsTrue, List, [], ◌∷◌}
+use Rattle.std.specs.Prelude.{◌≡◌, ◌==◌, ◌&&◌, not, if◌then◌else◌, ℕ, Bool, false, Option, None}
+use Rattle.std.specs.Prelude.{List, [], ◌∷◌, slice_get}
 
 -- it begins with a minus, and isn't a minus alone
 abbrev pub is_option : List ℕ → Bool

@@ -14,7 +14,7 @@ ghost use Rattle.zd_replay.specs.Run.{AnswersZeros};
 use crate::report::{tell_all, tell_alone};
 use crate::run::run;
 use crate::scripts::{has_reads_alone, read_plan};
-use crate::tables::{OpenFault, Opened, open};
+use crate::opening::{OpenFault, Opened, open};
 use crate::words::is_command;
 use std::alloc::Global;
 use zd_base::{Status, Why};

@@ -1,7 +1,7 @@
 //! The report of a run over a volume that nobody wrote.
 
-ghost use Rattle.std.specs.Prelude.{◌≡◌, ◌⊎◌, ◌+◌, ◌*◌, ◌<◌, ◌≤◌, ◌++◌, ◌∷◌, [], string_bytes, OnOk, IfOk, IsOk, length, replicate, true, false};
-ghost use Rattle.std.specs.List.{AllByRecursion, flat_map};
+ghost use Rattle.std.specs.Prelude.{◌≡◌, ◌⊎◌, ◌+◌, ◌≤◌, ◌++◌, ◌∷◌, [], string_bytes, OnOk, IfOk, IsOk, true, false};
+ghost use Rattle.std.specs.List.{AllByRecursion};
 ghost use Rattle.zd_model.specs.Entries.{answer_of, entry_of};
 ghost use Rattle.zd_model.specs.Report.{entry_text, reply_text, outcome_text, why_text, status_of, output};
 ghost use Rattle.zd_model.specs.Text.{numeral};

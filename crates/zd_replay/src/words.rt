@@ -1,6 +1,6 @@
 //! The words of a command.
 
-ghost use Rattle.std.specs.Prelude.{◌≡◌, ◌/◌, map, string_bytes, IfOk, Some, None, true, false, not, slice_get, MatchBool, option_map};
+ghost use Rattle.std.specs.Prelude.{◌≡◌, map, string_bytes, IfOk, None};
 ghost use Rattle.std.specs.Option.{option_copied};
 ghost use Rattle.zd_replay.specs.Words.{is_option, is_command, NamesFiles};
 

@@ -1,4 +1,4 @@
-use Rattle.std.proofs.Common.{ℕ, List, ◌++◌, ◌/◌, sym, ap, ◌∙◌, length}
+use Rattle.std.proofs.Common.{ℕ, List, ◌++◌, ◌/◌, sym, ap, ◌∙◌}
 use Rattle.std.specs.Prelude.{codes, string_bytes}
 use Rattle.std.proofs.lemmas.List.{append_assoc}
 use Rattle.zd_model.specs.Text.{numeral}

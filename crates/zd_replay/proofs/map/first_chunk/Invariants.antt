@@ -1,7 +1,7 @@
 use Rattle.std.proofs.Common.{◌≡◌, ◌≤◌, ◌*◌, length, min}
 use Rattle.zd_disk.specs.Told.{WhereTold}
 use Rattle.zd_replay.specs.Opening.{AreUnmapped}
-use Rattle.zd_replay.proofs.tables.first_chunk.Given as goal
+use Rattle.zd_replay.proofs.map.first_chunk.Given as goal
 
 -- the chunks of the blocks so far have no zone
 abbrev pub invariant-loop-m : goal.invariant-loop-m
