@@ -13,8 +13,8 @@ use zd_plain::{Entry, History, Reply, What, first_block};
 
 /// Appends a letter, and the blocks behind it.
 fn add_blocks(text: &mut String, letter: &str, block: u64, count: u32) -> Result<(), AllocError>
-    ensures { OnOk result (string_bytes text.new
-        ≡ string_bytes text.old ++ (letter.now ++ (32 ∷ (numeral block ++ 32 ∷ (numeral count ++ 32 ∷ []))))) }
+    ensures { OnOk result (string_bytes text.new ≡ string_bytes text.old
+        ++ (letter.now ++ 32 ∷ (numeral block ++ 32 ∷ (numeral count ++ 32 ∷ [])))) }
 {
     text.push_str(letter)?;
     text.push_str(" ")?;

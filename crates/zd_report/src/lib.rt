@@ -9,6 +9,8 @@ mod entries;
 mod numbers;
 mod reports;
 mod rows;
+#[cfg(test)]
+mod tests;
 
 pub use endings::{ending_line, outcome_line};
 pub use reports::{lines, output_text, text};

@@ -20,7 +20,8 @@ pub fn add_number(text: &mut String, n: u64) -> Result<(), AllocError>
 
 /// Appends a number and a space.
 pub fn add_field(text: &mut String, n: u64) -> Result<(), AllocError>
-    ensures { OnOk result (string_bytes text.new ≡ string_bytes text.old ++ (numeral n ++ 32 ∷ [])) }
+    ensures { OnOk result (string_bytes text.new
+        ≡ string_bytes text.old ++ (numeral n ++ 32 ∷ [])) }
 {
     add_number(text, n)?;
     text.push_str(" ")

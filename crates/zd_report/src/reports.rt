@@ -44,8 +44,8 @@ pub fn text(alloc: Global, history: &History, ending: &Ending) -> Result<Vec<u8>
     with_last(alloc, history, ending_line(*ending)).map_err(|_| Memory)
 }
 
-/// All that a run prints: the lines of the entries, then that of its outcome. Where a session ended,
-/// that is the report.
+/// All that a run prints: the lines of the entries, then that of its outcome. Where a session
+/// ended, that is the report.
 ///
 /// `Memory` where none is found for it.
 #[tactic(auto, unfolding(zd_model::specs::Report::output))]

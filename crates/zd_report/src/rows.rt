@@ -1,6 +1,7 @@
 //! The items of a read: its sectors in rows.
 
-ghost use Rattle.std.specs.Prelude.{◌≡◌, ◌<◌, ◌≤◌, ◌+◌, ◌*◌, ◌^◌, ◌++◌, string_bytes, OnOk, IfOk, length, slice_range};
+ghost use Rattle.std.specs.Prelude.{◌≡◌, ◌<◌, ◌≤◌, ◌+◌, ◌*◌, ◌^◌, ◌++◌, string_bytes, OnOk, IfOk};
+ghost use Rattle.std.specs.Prelude.{length, slice_range};
 ghost use Rattle.std.specs.Str.{bytes_eq};
 ghost use Rattle.zd_model.specs.Bytes.{u32_at, zero_sector};
 ghost use Rattle.zd_model.specs.Plain.{pattern};
@@ -86,7 +87,8 @@ fn kind_of<'a>(number: u64, sector: &'a [u8]) -> Kind<'a>
 /// Patterns are the same again after 2^26 sectors, so the number may wrap.
 fn kind_at<'a>(block: u64, i: usize, bytes: &'a [u8]) -> Kind<'a>
     requires { 512 * i + 512 ≤ length bytes.now }
-    ensures { row_with result 1 ≡ row_of (8 * block + i, slice_range bytes.now (512 * i) (512 * i + 512)) }
+    ensures { row_with result 1
+        ≡ row_of (8 * block + i, slice_range bytes.now (512 * i) (512 * i + 512)) }
 {
     let number = block.wrapping_mul(8).wrapping_add(i as u64);
     kind_of(number, &bytes[SECTOR * i..SECTOR * i + SECTOR])
@@ -105,7 +107,8 @@ fn goes_on(kind: Kind, next: Kind) -> bool
 
 /// Appends a row.
 fn add_row(text: &mut String, row: Row) -> Result<(), AllocError>
-    ensures { OnOk result (string_bytes text.new ≡ string_bytes text.old ++ row_text (row_told row.entry)) }
+    ensures { OnOk result (string_bytes text.new
+        ≡ string_bytes text.old ++ row_text (row_told row.entry)) }
 {
     match row.kind {
         Kind::Zeros => {
@@ -125,11 +128,11 @@ fn add_row(text: &mut String, row: Row) -> Result<(), AllocError>
     }
 }
 
-/// The row that ends with the next sector. Where the row so far doesn't go on, it is appended first.
+/// The row that ends with the next sector. Where the row so far doesn't go on, it is appended.
 fn row_after<'a>(text: &mut String, row: Row<'a>, next: Kind<'a>) -> Result<Row<'a>, AllocError>
     requires { row.count + 1 < 2 ^ 64 }
-    ensures owed { IfOk result (λ last. IsOwed (string_bytes text.old) (row_told row.entry) (row_with next.entry 1)
-        (string_bytes text.new) (row_told last)) }
+    ensures owed { IfOk result (λ last. IsOwed (string_bytes text.old) (row_told row.entry)
+        (row_with next.entry 1) (string_bytes text.new) (row_told last)) }
     ensures count { IfOk result (λ last. last.count ≤ row.entry.count + 1) }
 {
     if goes_on(row.kind, next) {
@@ -148,7 +151,8 @@ fn row_after<'a>(text: &mut String, row: Row<'a>, next: Kind<'a>) -> Result<Row<
 
 /// Appends the items of the bytes that were read from a block on, in whole sectors.
 pub fn add_items(text: &mut String, block: u64, bytes: &[u8]) -> Result<(), AllocError>
-    ensures { OnOk result (string_bytes text.new ≡ string_bytes text.old ++ items_text block bytes.now) }
+    ensures { OnOk result (string_bytes text.new
+        ≡ string_bytes text.old ++ items_text block bytes.now) }
 {
     let sectors = bytes.len() / SECTOR;
     if sectors == 0 {
