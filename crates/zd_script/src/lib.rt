@@ -7,6 +7,8 @@ mod line;
 mod number;
 mod plan;
 mod read;
+#[cfg(test)]
+mod tests;
 
 pub use fault::ScriptFault;
 pub use plan::parse;
