@@ -12,8 +12,10 @@ ghost use Rattle.zd_model.specs.Tables.{is_set};
 ghost use Rattle.zd_bits.specs.Bits.{AllAre, SomeIs, IsChanged, IsFirst, IsFirstValid, IsRun, weight_of};
 
 mod put;
+mod word;
 
 use put::put;
+use word::{WORD, first_one, low_bits, word_at, word_with};
 
 /// Whether block `block` is valid.
 pub fn valid(bits: &[u8], block: u32) -> bool
@@ -71,12 +73,11 @@ pub fn weight(bits: &[u8], end: u32) -> u32
     ensures { result ≡ weight_of bits.now end }
 {
     let mut weight = 0;
-    for n in 0..end {
-        if valid(bits, n) {
-            weight += 1;
-        }
+    for i in 0..end / WORD {
+        weight += word_at(bits, i as usize).count_ones();
     }
-    weight
+    let last = word_at(bits, (end / WORD) as usize);
+    weight + low_bits(last, end % WORD).count_ones()
 }
 
 /// The first block from `from` below `end` that has this bit, else `end`.
@@ -85,9 +86,11 @@ fn first_with(bits: &[u8], from: u32, end: u32, bit: bool) -> u32
     requires inside { end ≤ 8 * length bits.now }
     ensures { IsFirst bits.now from end bit result }
 {
-    for n in from..end {
-        if valid(bits, n) == bit {
-            return n;
+    for i in from / WORD..end.div_ceil(WORD) {
+        let word = word_with(bits, i as usize, bit);
+        let place = first_one(word, from.saturating_sub(WORD * i));
+        if place < WORD {
+            return (WORD * i + place).min(end);
         }
     }
     end

@@ -1,6 +1,5 @@
 -- The three parts meet.
-use Rattle.std.proofs.Common.{◌≡◌, ◌+◌, ◌*◌, ◌/◌, ◌≤◌, arith}
-use Rattle.zd_bits.specs.Bits.{Tells, IsChanged}
+use Rattle.std.proofs.Common.{◌≡◌, ◌*◌, ◌/◌, arith}
 use Rattle.zd_bits.proofs.RangeLaws.{changed_both, tells_both}
 use Rattle.zd_bits.proofs.put.put.Goals as goal
 
