@@ -3,13 +3,13 @@
 //! Bits are a slice of whole bitmap blocks of 4096 bytes: all bitmap blocks of a zone together, or
 //! some of them. Block `n` is bit `n % 8` of byte `n / 8`, the least bit first. A set bit is a valid
 //! block. Blocks are counted from the slice's first bit on, and every range of blocks ends inside
-//! the slice.
+//! the slice. No call needs whole bitmap blocks: all bytes are bits.
 #![tactic(auto)]
 
 ghost use Rattle.std.specs.Prelude.{◌≡◌, ◌+◌, ◌*◌, ◌<◌, ◌≤◌, ◌↔◌, length, true, false, IsTrue};
-ghost use Rattle.std.specs.Prelude.{Bool, IfNone, IfSome, MatchOption};
+ghost use Rattle.std.specs.Prelude.{IfNone, IfSome};
 ghost use Rattle.zd_model.specs.Tables.{is_set};
-ghost use Rattle.zd_bits.specs.Bits.{AllAre, SomeIs, IsChanged, IsFirst, IsFirstValid, IsRun, weight_of};
+ghost use Rattle.zd_bits.specs.Bits.{AllAre, SomeIs, GivesOnly, IsFirst, IsFirstValid, IsRun, weight_of};
 
 mod put;
 mod word;
@@ -19,7 +19,7 @@ use word::{WORD, first_one, low_bits, word_at, word_with};
 
 /// Whether block `block` is valid.
 pub fn valid(bits: &[u8], block: u32) -> bool
-    requires { block < 8 * length bits.now }
+    requires inside { block < 8 * length bits.now }
     ensures { result ≡ is_set bits.now block }
 {
     (bits[block as usize / 8] >> (block % 8)) & 1 == 1
@@ -29,7 +29,8 @@ pub fn valid(bits: &[u8], block: u32) -> bool
 pub fn set_range(bits: &mut [u8], from: u32, count: u32) -> bool
     requires inside { from + count ≤ 8 * length bits.old }
     ensures value { IsTrue result ↔ SomeIs false bits.old from (from + count) }
-    ensures bits { IsChanged true from (from + count) bits.old bits.new }
+    ensures bits { GivesOnly true from (from + count) bits.old bits.new }
+    ensures same { result ≡ false → bits.new ≡ bits.old }
 {
     put(bits, from as usize, from as usize + count as usize, true)
 }
@@ -38,7 +39,8 @@ pub fn set_range(bits: &mut [u8], from: u32, count: u32) -> bool
 pub fn clear_range(bits: &mut [u8], from: u32, count: u32) -> bool
     requires inside { from + count ≤ 8 * length bits.old }
     ensures value { IsTrue result ↔ SomeIs true bits.old from (from + count) }
-    ensures bits { IsChanged false from (from + count) bits.old bits.new }
+    ensures bits { GivesOnly false from (from + count) bits.old bits.new }
+    ensures same { result ≡ false → bits.new ≡ bits.old }
 {
     put(bits, from as usize, from as usize + count as usize, false)
 }
