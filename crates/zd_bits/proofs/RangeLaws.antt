@@ -13,10 +13,6 @@ one_or_other true false = inr (cc)
 one_or_other false true = inr (cc)
 one_or_other false false = inl (cc)
 
-not_itself : (b : Bool) → b ≡ not b → ⊥
-not_itself true e = cc
-not_itself false e = cc
-
 or_parts : (x y : Bool) → (x || y) ≡ false → (x ≡ false) × (y ≡ false)
 or_parts true y e = let f : ⊥ = cc in absurd f
 or_parts false y e = (cc, e)
@@ -42,8 +38,8 @@ all_or_some bit bits from end order =
     rw e at (all_or_some_of bit bits from (end - from))
 
 -- two ranges that meet, given the same bit one after the other
-pub changed_both : {bit : Bool} {a b c : ℕ} {x y z : List ℕ} → a ≤ b → b ≤ c → GivesOnly bit a b x y → GivesOnly bit b c y z → GivesOnly bit a c x z
-changed_both {bit} {a} {b} {c} {x} {y} {z} ab bc first second = record {
+pub given_both : {bit : Bool} {a b c : ℕ} {x y z : List ℕ} → a ≤ b → b ≤ c → GivesOnly bit a b x y → GivesOnly bit b c y z → GivesOnly bit a c x z
+given_both {bit} {a} {b} {c} {x} {y} {z} ab bc first second = record {
   inside = λ n low high. elim (cases_lt n b) [
     | inl before ↦ second.below n before ∙ first.inside n low before
     | inr after ↦ second.inside n after high
