@@ -1,3 +1,4 @@
 pub mod RangeLaws
 pub mod MaskLaws
 pub mod CountLaws
+pub mod WordLaws

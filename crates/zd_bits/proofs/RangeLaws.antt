@@ -5,17 +5,13 @@ use Rattle.std.specs.Int.{bit_at}
 use Rattle.std.proofs.lemmas.Bool.{cases_Bool, cases_lt, cases_eq, or_cases, eqb-true, eqb-false, not-true, not-false}
 use Rattle.std.proofs.lemmas.Nat.Bits.{bit_at-lt, same_from_bits_below}
 use Rattle.zd_model.specs.Tables.{is_set}
-use Rattle.zd_bits.specs.Bits.{AllAre, SomeIs, Tells, IsChanged}
+use Rattle.zd_bits.specs.Bits.{AllAre, SomeIs, Tells, GivesOnly}
 
 one_or_other : (a b : Bool) → (a ≡ b) ⊎ (a ≡ not b)
 one_or_other true true = inl (cc)
 one_or_other true false = inr (cc)
 one_or_other false true = inr (cc)
 one_or_other false false = inl (cc)
-
-not_itself : (b : Bool) → b ≡ not b → ⊥
-not_itself true e = cc
-not_itself false e = cc
 
 or_parts : (x y : Bool) → (x || y) ≡ false → (x ≡ false) × (y ≡ false)
 or_parts true y e = let f : ⊥ = cc in absurd f
@@ -42,8 +38,8 @@ all_or_some bit bits from end order =
     rw e at (all_or_some_of bit bits from (end - from))
 
 -- two ranges that meet, given the same bit one after the other
-pub changed_both : {bit : Bool} {a b c : ℕ} {x y z : List ℕ} → a ≤ b → b ≤ c → IsChanged bit a b x y → IsChanged bit b c y z → IsChanged bit a c x z
-changed_both {bit} {a} {b} {c} {x} {y} {z} ab bc first second = record {
+pub given_both : {bit : Bool} {a b c : ℕ} {x y z : List ℕ} → a ≤ b → b ≤ c → GivesOnly bit a b x y → GivesOnly bit b c y z → GivesOnly bit a c x z
+given_both {bit} {a} {b} {c} {x} {y} {z} ab bc first second = record {
   inside = λ n low high. elim (cases_lt n b) [
     | inl before ↦ second.below n before ∙ first.inside n low before
     | inr after ↦ second.inside n after high
@@ -53,7 +49,7 @@ changed_both {bit} {a} {b} {c} {x} {y} {z} ab bc first second = record {
 }
 
 -- what is told of both
-pub tells_both : {p q bit : Bool} {a b c : ℕ} {x y : List ℕ} → a ≤ b → b ≤ c → Tells p bit x a b → IsChanged bit a b x y → Tells q bit y b c → Tells (p || q) bit x a c
+pub tells_both : {p q bit : Bool} {a b c : ℕ} {x y : List ℕ} → a ≤ b → b ≤ c → Tells p bit x a b → GivesOnly bit a b x y → Tells q bit y b c → Tells (p || q) bit x a c
 tells_both {p} {q} {bit} {a} {b} {c} {x} {y} ab bc first change second = record {
   changes = λ e. elim (or_cases p q e) [
     | inl one ↦ let s = first.changes one in (s.0, s.1, omega arith, s.3)
@@ -94,7 +90,7 @@ same_blocks bits i b inside e n =
     ] in
     rw byte
 
-no_other : (bit : Bool) (old new : List ℕ) (from end : ℕ) → IsChanged bit from end old new → AllAre bit old from end → (n : ℕ) → is_set new n ≡ is_set old n
+no_other : (bit : Bool) (old new : List ℕ) (from end : ℕ) → GivesOnly bit from end old new → AllAre bit old from end → (n : ℕ) → is_set new n ≡ is_set old n
 no_other bit old new from end change all n = elim (cases_lt n from) [
   | inl before ↦ change.below n before
   | inr after ↦ elim (cases_lt n end) [
@@ -104,7 +100,7 @@ no_other bit old new from end change all n = elim (cases_lt n from) [
 ]
 
 -- a byte written changes a block of the range exactly where it differs from the byte before
-pub byte_tells : (bit : Bool) (bits : List ℕ) (from end i b : ℕ) → from ≤ end → i < length bits → get_or bits i 0 < 2 ^ 8 → b < 2 ^ 8 → IsChanged bit from end bits (set bits i b) → Tells (not (eqb (get_or bits i 0) b)) bit bits from end
+pub byte_tells : (bit : Bool) (bits : List ℕ) (from end i b : ℕ) → from ≤ end → i < length bits → get_or bits i 0 < 2 ^ 8 → b < 2 ^ 8 → GivesOnly bit from end bits (set bits i b) → Tells (not (eqb (get_or bits i 0) b)) bit bits from end
 byte_tells bit bits from end i b order inside fits new_fits change =
     let new : List ℕ = set bits i b in
     let here : get_or new i 0 ≡ b = get_or-set_same bits i b 0 inside in

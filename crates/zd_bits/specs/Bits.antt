@@ -11,8 +11,8 @@ AllAre bit bits from end = (n : ℕ) → from ≤ n → n < end → is_set bits 
 abbrev pub SomeIs : Bool → List ℕ → ℕ → ℕ → Type 0
 SomeIs bit bits from end = (n : ℕ) × (from ≤ n) × (n < end) × (is_set bits n ≡ bit)
 
--- the blocks from `from` below `end` have this bit now, and all others theirs of before
-pub record IsChanged (bit : Bool) (from end : ℕ) (old new : List ℕ) : Type 0 where
+-- the blocks from `from` below `end` have this bit now, all others theirs of before
+pub record GivesOnly (bit : Bool) (from end : ℕ) (old new : List ℕ) : Type 0 where
   pub inside : AllAre bit new from end
   pub below : (n : ℕ) → n < from → is_set new n ≡ is_set old n
   pub behind : (n : ℕ) → end ≤ n → is_set new n ≡ is_set old n

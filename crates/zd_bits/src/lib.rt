@@ -3,21 +3,23 @@
 //! Bits are a slice of whole bitmap blocks of 4096 bytes: all bitmap blocks of a zone together, or
 //! some of them. Block `n` is bit `n % 8` of byte `n / 8`, the least bit first. A set bit is a valid
 //! block. Blocks are counted from the slice's first bit on, and every range of blocks ends inside
-//! the slice.
+//! the slice. No call needs whole bitmap blocks: all bytes are bits.
 #![tactic(auto)]
 
 ghost use Rattle.std.specs.Prelude.{◌≡◌, ◌+◌, ◌*◌, ◌<◌, ◌≤◌, ◌↔◌, length, true, false, IsTrue};
-ghost use Rattle.std.specs.Prelude.{Bool, IfNone, IfSome, MatchOption};
+ghost use Rattle.std.specs.Prelude.{IfNone, IfSome};
 ghost use Rattle.zd_model.specs.Tables.{is_set};
-ghost use Rattle.zd_bits.specs.Bits.{AllAre, SomeIs, IsChanged, IsFirst, IsFirstValid, IsRun, weight_of};
+ghost use Rattle.zd_bits.specs.Bits.{AllAre, SomeIs, GivesOnly, IsFirst, IsFirstValid, IsRun, weight_of};
 
 mod put;
+mod word;
 
 use put::put;
+use word::{WORD, first_one, low_bits, word_at, word_with};
 
 /// Whether block `block` is valid.
 pub fn valid(bits: &[u8], block: u32) -> bool
-    requires { block < 8 * length bits.now }
+    requires inside { block < 8 * length bits.now }
     ensures { result ≡ is_set bits.now block }
 {
     (bits[block as usize / 8] >> (block % 8)) & 1 == 1
@@ -27,7 +29,8 @@ pub fn valid(bits: &[u8], block: u32) -> bool
 pub fn set_range(bits: &mut [u8], from: u32, count: u32) -> bool
     requires inside { from + count ≤ 8 * length bits.old }
     ensures value { IsTrue result ↔ SomeIs false bits.old from (from + count) }
-    ensures bits { IsChanged true from (from + count) bits.old bits.new }
+    ensures bits { GivesOnly true from (from + count) bits.old bits.new }
+    ensures same { result ≡ false → bits.new ≡ bits.old }
 {
     put(bits, from as usize, from as usize + count as usize, true)
 }
@@ -36,7 +39,8 @@ pub fn set_range(bits: &mut [u8], from: u32, count: u32) -> bool
 pub fn clear_range(bits: &mut [u8], from: u32, count: u32) -> bool
     requires inside { from + count ≤ 8 * length bits.old }
     ensures value { IsTrue result ↔ SomeIs true bits.old from (from + count) }
-    ensures bits { IsChanged false from (from + count) bits.old bits.new }
+    ensures bits { GivesOnly false from (from + count) bits.old bits.new }
+    ensures same { result ≡ false → bits.new ≡ bits.old }
 {
     put(bits, from as usize, from as usize + count as usize, false)
 }
@@ -71,12 +75,11 @@ pub fn weight(bits: &[u8], end: u32) -> u32
     ensures { result ≡ weight_of bits.now end }
 {
     let mut weight = 0;
-    for n in 0..end {
-        if valid(bits, n) {
-            weight += 1;
-        }
+    for i in 0..end / WORD {
+        weight += word_at(bits, i as usize).count_ones();
     }
-    weight
+    let last = word_at(bits, (end / WORD) as usize);
+    weight + low_bits(last, end % WORD).count_ones()
 }
 
 /// The first block from `from` below `end` that has this bit, else `end`.
@@ -85,9 +88,11 @@ fn first_with(bits: &[u8], from: u32, end: u32, bit: bool) -> u32
     requires inside { end ≤ 8 * length bits.now }
     ensures { IsFirst bits.now from end bit result }
 {
-    for n in from..end {
-        if valid(bits, n) == bit {
-            return n;
+    for i in from / WORD..end.div_ceil(WORD) {
+        let word = word_with(bits, i as usize, bit);
+        let place = first_one(word, from.saturating_sub(WORD * i));
+        if place < WORD {
+            return (WORD * i + place).min(end);
         }
     }
     end

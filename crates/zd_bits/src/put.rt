@@ -1,9 +1,9 @@
 //! Ranges of bits written, byte by byte.
 
-ghost use Rattle.std.specs.Prelude.{◌≡◌, ◌+◌, ◌*◌, ◌/◌, ◌<◌, ◌≤◌, ◌^◌, ◌-◌, length};
+ghost use Rattle.std.specs.Prelude.{◌≡◌, ◌+◌, ◌*◌, ◌/◌, ◌<◌, ◌≤◌, ◌^◌, ◌-◌, length, false};
 ghost use Rattle.std.specs.Prelude.{ℕ, if◌then◌else◌};
 ghost use Rattle.std.specs.Int.{bit_at};
-ghost use Rattle.zd_bits.specs.Bits.{Tells, IsChanged};
+ghost use Rattle.zd_bits.specs.Bits.{Tells, GivesOnly};
 
 /// Gives the blocks from `from` below `end` this bit. The answer says whether one had the other.
 pub(crate) fn put(bits: &mut [u8], from: usize, end: usize, bit: bool) -> bool
@@ -11,7 +11,8 @@ pub(crate) fn put(bits: &mut [u8], from: usize, end: usize, bit: bool) -> bool
     requires inside { end ≤ 8 * length bits.old }
     requires size { end < 2 ^ 34 }
     ensures value { Tells result bit bits.old from end }
-    ensures bits { IsChanged bit from end bits.old bits.new }
+    ensures bits { GivesOnly bit from end bits.old bits.new }
+    ensures same { result ≡ false → bits.new ≡ bits.old }
 {
     let head = from.div_ceil(8) * 8;
     if end <= head {
@@ -29,7 +30,8 @@ fn put_bytes(bits: &mut [u8], first: usize, last: usize, bit: bool) -> bool
     requires order { first ≤ last }
     requires inside { last ≤ length bits.old }
     ensures value { Tells result bit bits.old (8 * first) (8 * last) }
-    ensures bits { IsChanged bit (8 * first) (8 * last) bits.old bits.new }
+    ensures bits { GivesOnly bit (8 * first) (8 * last) bits.old bits.new }
+    ensures same { result ≡ false → bits.new ≡ bits.old }
 {
     let mut changed = false;
     for i in first..last {
@@ -42,7 +44,8 @@ fn put_bytes(bits: &mut [u8], first: usize, last: usize, bit: bool) -> bool
 fn put_byte(bits: &mut [u8], i: usize, bit: bool) -> bool
     requires { i < length bits.old }
     ensures value { Tells result bit bits.old (8 * i) (8 * i + 8) }
-    ensures bits { IsChanged bit (8 * i) (8 * i + 8) bits.old bits.new }
+    ensures bits { GivesOnly bit (8 * i) (8 * i + 8) bits.old bits.new }
+    ensures same { result ≡ false → bits.new ≡ bits.old }
 {
     let old = bits[i];
     let new = whole(bit);
@@ -63,7 +66,8 @@ fn put_in_byte(bits: &mut [u8], from: usize, end: usize, bit: bool) -> bool
     requires inside { end ≤ 8 * length bits.old }
     requires byte { end ≤ from / 8 * 8 + 8 }
     ensures value { Tells result bit bits.old from end }
-    ensures bits { IsChanged bit from end bits.old bits.new }
+    ensures bits { GivesOnly bit from end bits.old bits.new }
+    ensures same { result ≡ false → bits.new ≡ bits.old }
 {
     if from == end {
         return false;

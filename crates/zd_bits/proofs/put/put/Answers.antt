@@ -1,7 +1,6 @@
 -- The three parts meet.
-use Rattle.std.proofs.Common.{◌≡◌, ◌+◌, ◌*◌, ◌/◌, ◌≤◌, arith}
-use Rattle.zd_bits.specs.Bits.{Tells, IsChanged}
-use Rattle.zd_bits.proofs.RangeLaws.{changed_both, tells_both}
+use Rattle.std.proofs.Common.{◌≡◌, ◌*◌, ◌/◌, arith}
+use Rattle.zd_bits.proofs.RangeLaws.{given_both, tells_both}
 use Rattle.zd_bits.proofs.put.put.Goals as goal
 
 pub returns-clause-value : goal.returns-clause-value
@@ -14,7 +13,7 @@ returns-clause-value c =
     let tail = c.put_in_byte-in_tail.ensures in
     tells_both (omega arith) (omega arith)
     (tells_both (omega arith) (omega arith) head.value head.bits told)
-    (changed_both (omega arith) (omega arith) head.bits done)
+    (given_both (omega arith) (omega arith) head.bits done)
     tail.value
 
 pub returns-clause-bits : goal.returns-clause-bits
@@ -22,6 +21,6 @@ returns-clause-bits c =
     let start : 8 * (c.div_ceil-head.result * 8 / 8) ≡ c.div_ceil-head.result * 8 = omega arith in
     let stop : 8 * (c.args.end / 8 * 8 / 8) ≡ c.args.end / 8 * 8 = omega arith in
     let done = rw (start, stop) at c.put_bytes-in_middle.ensures.bits in
-    changed_both (omega arith) (omega arith)
-    (changed_both (omega arith) (omega arith) c.put_in_byte-in_head.ensures.bits done)
+    given_both (omega arith) (omega arith)
+    (given_both (omega arith) (omega arith) c.put_in_byte-in_head.ensures.bits done)
     c.put_in_byte-in_tail.ensures.bits
