@@ -3,10 +3,8 @@ use Rattle.std.proofs.Common.{◌≡◌, ◌⊎◌, ℕ, List, Option, Some, Non
 use Rattle.zd_base.specs.Layout.{Fits}
 use Rattle.zd_base.specs.declared.numbers.Why.TheVariants as whys
 use Rattle.zd_model.specs.Image.{Image}
-use Rattle.zd_model.specs.Report.{status_of}
 use Rattle.zd_model.specs.Volume.{good_super}
 use Rattle.zd_model.specs.declared.metadata.Super.{Super}
-use Rattle.zd_model.specs.declared.requests.Ending.{Ending}
 use Rattle.zd_model.specs.declared.requests.Ending.TheVariants as endings
 use Rattle.zd_model.specs.declared.texts.Outcome.{Outcome}
 use Rattle.zd_model.specs.declared.texts.Outcome.TheVariants as outcomes

@@ -1,7 +1,6 @@
 pub mod OpeningLaws
 pub mod PieceLaws
 pub mod ZeroLaws
-pub mod LineText
 pub mod SinkLaws
 pub mod ReportLaws
 pub mod RunLaws

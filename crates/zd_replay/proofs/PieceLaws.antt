@@ -1,5 +1,5 @@
 -- The pieces of a plan of reads are reads, and each is marked out of range where it ends past the device.
-use Rattle.std.proofs.Common.{◌≡◌, ℕ, ◌+◌, ◌*◌, ◌≤◌, Bool, true, false, not, List, [], ◌∷◌, ◌++◌, map, refl, ap, arith, leb as nat_le}
+use Rattle.std.proofs.Common.{◌≡◌, ℕ, ◌+◌, ◌*◌, ◌≤◌, Bool, true, false, not, List, [], ◌∷◌, map, refl, ap, arith, leb as nat_le}
 use Rattle.std.proofs.lemmas.Bool.{le-leb, leb-true, not-false}
 use Rattle.std.specs.List.{AllByRecursion, enumerate_from, flat_map}
 use Rattle.zd_model.specs.Cut.{IsCut}

@@ -1,8 +1,5 @@
 -- How the report of a run comes together.
-use Rattle.std.proofs.Common.{◌≡◌, ◌⊎◌, ℕ, ◌+◌, ◌*◌, ◌/◌, ◌<◌, ◌≤◌, ◌^◌, ◌-◌, List, [], ◌∷◌, ◌++◌, length, map, take, Option, Some, refl, sym, ap, ◌∙◌, subst, inl, inr, arith}
-use Rattle.std.specs.List.{AllByRecursion, flat_map}
-use Rattle.zd_base.specs.Geometry.{Shape}
-use Rattle.zd_base.specs.declared.numbers.Why.{Why}
+use Rattle.std.proofs.Common.{◌≡◌, ◌⊎◌, ℕ, ◌/◌, ◌≤◌, List, [], length, map, Option, refl, sym, ap, ◌∙◌, subst, inl, inr, arith}
 use Rattle.zd_base.specs.declared.numbers.Why.TheVariants as whys
 use Rattle.zd_model.specs.Image.{Image}
 use Rattle.zd_model.specs.History.{HistoryEntry, mark_of_piece, marks_of_caller}
@@ -15,7 +12,7 @@ use Rattle.zd_model.specs.declared.texts.Outcome.{Outcome}
 use Rattle.zd_model.specs.declared.texts.Outcome.TheVariants as outcomes
 use Rattle.zd_replay.specs.Opening.{Explains, Opens}
 use Rattle.zd_replay.specs.Reads.{IsScriptOfReads}
-use Rattle.std.specs.Prelude.{Result, Err}
+use Rattle.std.specs.Prelude.{Err}
 use Rattle.zd_model.specs.Script.{Refuses}
 use Rattle.zd_model.specs.declared.texts.BadLine.{BadLine}
 use Rattle.zd_script.specs.Fault.{IfBad}
@@ -23,7 +20,7 @@ use Rattle.zd_script.specs.declared.fault.ScriptFault.{ScriptFault}
 use Rattle.zd_script.specs.declared.fault.ScriptFault.TheVariants as scripts
 use Rattle.zd_replay.specs.declared.opening.OpenFault.{OpenFault}
 use Rattle.zd_replay.specs.declared.opening.OpenFault.TheVariants as opens
-use Rattle.zd_replay.specs.Replay.{Takes, Tells, HasStatus, IsHistory, IsCommand, IsRunnable, Comes, Ends, open_outcome, script_outcome, AreCounted, Reports, fault_count, no_memory}
+use Rattle.zd_replay.specs.Replay.{Takes, Tells, HasStatus, IsHistory, IsCommand, IsRunnable, Comes, Ends, open_outcome, script_outcome, Reports, fault_count, no_memory}
 
 -- the text of an outcome alone
 alone_text : (outcome : Outcome) → output [] outcome ≡ outcome_text outcome

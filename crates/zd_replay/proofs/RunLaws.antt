@@ -1,5 +1,5 @@
 -- The run of a plan over a volume that nobody wrote.
-use Rattle.std.proofs.Common.{◌≡◌, ℕ, zero, suc, ◌*◌, ◌/◌, ◌≤◌, Bool, true, false, cond, List, [], ◌∷◌, length, map, take, replicate, refl, ap, ◌∙◌, arith}
+use Rattle.std.proofs.Common.{◌≡◌, ℕ, ◌*◌, ◌/◌, ◌≤◌, Bool, true, false, cond, List, [], ◌∷◌, length, map, take, replicate, refl, ap, ◌∙◌, arith}
 use Rattle.std.proofs.lemmas.List.{length-replicate}
 use Rattle.std.proofs.lemmas.List.Sums.{sum_by-append}
 use Rattle.std.specs.List.{AllByRecursion}
@@ -19,8 +19,8 @@ use Rattle.zd_model.specs.declared.requests.Request.{Request}
 use Rattle.zd_replay.specs.Opening.{IsOpened, base_of}
 use Rattle.zd_replay.specs.Reads.{IsFirstCallersRead, Reads}
 use Rattle.zd_replay.specs.Replay.{IsHistory, IsReadPlan, fault_count, is_fault}
-use Rattle.zd_replay.specs.Run.{zeros_for, AnswersZeros}
-use Rattle.zd_replay.proofs.PieceLaws.{IsRead, ReadsSome, pieces_right}
+use Rattle.zd_replay.specs.Run.{zeros_for}
+use Rattle.zd_replay.proofs.PieceLaws.{ReadsSome, pieces_right}
 use Rattle.zd_replay.proofs.ZeroLaws.{base_is, zeros_legal, zeros_ordered, zeros_whole}
 
 read_some : (w : What) → HasNumbers w → Reads w → ReadsSome w
@@ -55,30 +55,6 @@ entered g head image plan z blocks k history whole o p size count some is all =
       ordered = rw (device, ← chunk, is) (zeros_ordered z blocks k plan);
       all = λ w. rw (device, ← chunk, all w) (zeros_whole z blocks plan);
     }
-
-answer_zeros : (n : ℕ) (p : Piece) → IsRead n p → AnswersZeros p.what (zeros_for p).reply
-answer_zeros n p h = by_kind p.what h.reads h.some p.range
-  where
-    by_kind : (w : What) → Reads w → 1 ≤ block_count w → (past : Bool)
-        → AnswersZeros w (cond past Range (Got (replicate (4096 * block_count w) 0)))
-    by_kind (Read b c) reads some true = tt
-    by_kind (Read b c) reads some false = (some, refl)
-    by_kind (Write b c s) reads some past = absurd reads
-    by_kind (Discard b c) reads some past = absurd reads
-    by_kind Flush reads some past = absurd reads
-
-zeros_each : (n k : ℕ) (pieces : List Piece) → AllByRecursion (IsRead n) pieces
-    → AllByRecursion (λ (e : HistoryEntry). AnswersZeros e.what e.reply) (map zeros_for (take k pieces))
-zeros_each n zero pieces h = tt
-zeros_each n (suc k) [] h = tt
-zeros_each n (suc k) (p ∷ pieces) h = (answer_zeros n p h.0, zeros_each n k pieces h.1)
-
--- the answers to the first k pieces are zeros, or that a read ends past the device
-pub all_zeros : (plan : List Request) (z blocks k : ℕ) (history : List HistoryEntry) → IsReadPlan plan → 1 ≤ z
-    → history ≡ map zeros_for (take k (pieces_of z blocks plan))
-    → AllByRecursion (λ (e : HistoryEntry). AnswersZeros e.what e.reply) history
-all_zeros plan z blocks k history p some is =
-    rw is (zeros_each (8 * blocks) k (pieces_of z blocks plan) (pieces_right z blocks plan some (plan_some plan p)))
 
 no_fault : (p : Piece) → is_fault (zeros_for p).reply ≡ false
 no_fault p = by_mark p.range

@@ -1,8 +1,7 @@
 -- What a sink took, one call on, and the entries of a history one by one.
-use Rattle.std.proofs.Common.{◌≡◌, ◌+◌, ◌-◌, ◌≤◌, ℕ, zero, suc, List, [], ◌∷◌, ◌++◌, take, drop, length, Some, IfSome, Option, refl, sym, ◌∙◌, ap, arith, append_assoc, take-append-drop, add-one}
+use Rattle.std.proofs.Common.{◌≡◌, ◌+◌, ◌-◌, ◌≤◌, ℕ, List, [], ◌++◌, take, drop, length, Some, IfSome, Option, refl, sym, ◌∙◌, ap, arith, append_assoc, take-append-drop}
 use Rattle.std.proofs.Math.Seq.{take-add}
-use Rattle.std.specs.List.{slice_get, flat_map}
-use Rattle.std.proofs.lemmas.List.{take-take, flat_map_more}
+use Rattle.std.proofs.lemmas.List.{take-take}
 use Rattle.zd_disk.proofs.ToldLaws.{IfSome-at}
 use Rattle.std.specs.Prelude.{Result, Ok, Err, is_ok, IsOk, OnErr, Bool, true}
 use Rattle.std.proofs.Common.{inl, inr}
@@ -26,17 +25,6 @@ held_more here after before bytes at n held wrote fits =
 pub took_front : (here : Option (List ℕ)) (before bytes : List ℕ) (at : ℕ) (whole : Type 0)
     → here ≡ Some (before ++ take at bytes) → (whole → drop at bytes ≡ []) → Takes before here bytes whole
 took_front here before bytes at whole held all = record { front = take at bytes; rest = drop at bytes; taken = held; is_front = take-append-drop at bytes; all = all }
-
-take_found : {X : Type 0} (xs : List X) (i : ℕ) (x : X) → slice_get xs i ≡ Some x
-    → take (suc i) xs ≡ take i xs ++ x ∷ []
-take_found [] i x e = absurd (let f : ⊥ = cc in f)
-take_found (y ∷ ys) zero x e = let same : y ≡ x = cc in ap (λ z. z ∷ []) same
-take_found (y ∷ ys) (suc i) x e = ap (λ l. y ∷ l) (take_found ys i x e)
-
--- one more element
-pub flat_map_found : {X : Type 0} (f : X → List ℕ) (xs : List X) (i : ℕ) (x : X) → slice_get xs i ≡ Some x
-    → flat_map f (take (i + 1) xs) ≡ flat_map f (take i xs) ++ f x
-flat_map_found f xs i x e = rw (add-one, take_found xs i x e) (sym (flat_map_more f [] (take i xs) x))
 
 -- what is the whole under one fact is so under another that leads to it
 pub taken_where : (before : List ℕ) (after : Option (List ℕ)) (bytes : List ℕ) (whole other : Type 0)

@@ -1,8 +1,7 @@
 -- What a run is promised to report.
-use Rattle.std.specs.Prelude.{◌≡◌, ◌⊎◌, ℕ, ◌+◌, ◌-◌, ◌*◌, ◌/◌, ◌^◌, ◌<◌, ◌≤◌, Bool, true, false, ◌==◌, IsTrue, Option, Some, List, [], ◌∷◌, ◌++◌, length, map, take, count_by}
+use Rattle.std.specs.Prelude.{◌≡◌, ◌⊎◌, ℕ, ◌+◌, ◌-◌, ◌/◌, ◌^◌, ◌<◌, ◌≤◌, Bool, true, false, ◌==◌, IsTrue, Option, Some, List, [], ◌∷◌, ◌++◌, length, map, count_by}
 use Rattle.std.specs.List.{list_any}
 use Rattle.zd_base.specs.Faults.{Rose}
-use Rattle.zd_base.specs.Geometry.{Shape}
 use Rattle.zd_base.specs.declared.numbers.Why.TheVariants as whys
 use Rattle.zd_model.specs.Image.{Image}
 use Rattle.zd_model.specs.Plain.{Answer}
@@ -176,11 +175,6 @@ pub record Tells
   pub which : ((entries ≡ history) × (ending ≡ outcome)) ⊎ ((entries ≡ []) × (ending ≡ no_memory))
   pub answers : HasStatus ending status
   pub taken : Takes before after (output entries ending) whole
-
--- the outcome's line tells no line of a script, and no memory is needed for it
-abbrev pub IsFixed : Outcome → Type 0
-IsFixed (outcomes.BadScript line why) = ⊥
-IsFixed outcome = Unit {0}
 
 -- how a run ends whose script can't be run
 abbrev pub script_outcome : ScriptFault → Outcome

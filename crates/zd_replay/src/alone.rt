@@ -1,7 +1,6 @@
 //! A run by one caller, from words and bytes to the report.
 
 ghost use Rattle.std.specs.Prelude.{◌≡◌, ◌⊎◌, ◌↔◌, ◌≤◌, ◌==◌, ℕ, List, [], ◌∷◌, map, string_bytes, IfOk, Err, IsTrue};
-ghost use Rattle.std.specs.List.{AllByRecursion, list_any};
 ghost use Rattle.zd_base.specs.Faults.{Rose};
 ghost use Rattle.zd_base.specs.Layout.{Fits};
 ghost use Rattle.zd_disk.specs.Told.{WhereTold};
@@ -9,12 +8,11 @@ ghost use Rattle.zd_model.specs.Image.{Image};
 ghost use Rattle.zd_replay.specs.Opening.{IsOpened, Opens};
 ghost use Rattle.zd_replay.specs.Reads.{IsNoScriptOfReads, IsScriptOfReads};
 ghost use Rattle.zd_replay.specs.Replay.{IsCommand, IsRunnable, IsReadPlan, script_outcome, open_outcome, IsHistory, IsRight, IsFaultless, IsTaken, IsStatus, IsSessionStatus, IsRefusalStatus, Tells, Reports, WhereAllTold, fault_count, no_memory};
-ghost use Rattle.zd_replay.specs.Run.{AnswersZeros};
 
+use crate::opening::{OpenFault, Opened, open};
 use crate::report::{tell_all, tell_alone};
 use crate::run::run;
 use crate::scripts::{has_reads_alone, read_plan};
-use crate::opening::{OpenFault, Opened, open};
 use crate::words::is_command;
 use std::alloc::Global;
 use zd_base::{Status, Why};
@@ -65,7 +63,6 @@ fn run_plan(alloc: Global, opened: &Opened, plan: &Plan) -> (History, Ending)
     requires fits { Fits opened.now.geometry opened.now.head.layout }
     ensures entries { (image : Image) → IsOpened opened.now.geometry opened.now.head image →
         IsHistory image plan.now result.0.items (result.1 ≡ Ending.Ok) }
-    ensures zeros { AllByRecursion (λ e. AnswersZeros e.what e.reply) result.0.items }
     ensures counted { fault_count result.0.items ≡ 0 }
     ensures ending { (result.1 ≡ Ending.Ok) ⊎ (result.1 ≡ Ending.Stopped Why.Memory) }
 {

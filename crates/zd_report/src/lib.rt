@@ -12,5 +12,5 @@ mod rows;
 #[cfg(test)]
 mod tests;
 
-pub use endings::{ending_line, outcome_line};
+pub use endings::{ending_line, fixed_line};
 pub use reports::{lines, output_text, text};

@@ -6,7 +6,8 @@ ghost use Rattle.zd_model.specs.Report.{IsReported, entry_text, output, report};
 ghost use Rattle.zd_report.specs.Told.{TellsOnly};
 
 use crate::entries::add_lines;
-use crate::{ending_line, outcome_line};
+use crate::ending_line;
+use crate::endings::add_outcome;
 use std::alloc::{AllocError, Global};
 use zd_base::Memory;
 use zd_model::{Ending, Outcome};
@@ -44,13 +45,23 @@ pub fn text(alloc: Global, history: &History, ending: &Ending) -> Result<Vec<u8>
     with_last(alloc, history, ending_line(*ending)).map_err(|_| Memory)
 }
 
+/// The lines of the entries, and that of the outcome.
+#[tactic(auto, unfolding(zd_model::specs::Report::output))]
+fn with_outcome(alloc: Global, history: &History, outcome: Outcome) -> Result<Vec<u8>, AllocError>
+    ensures { IfOk result (λ v. v.items ≡ output history.now.items outcome) }
+{
+    let mut text = String::new(alloc);
+    add_lines(&mut text, history)?;
+    add_outcome(&mut text, outcome)?;
+    Ok(text.into_bytes())
+}
+
 /// All that a run prints: the lines of the entries, then that of its outcome. Where a session
 /// ended, that is the report.
 ///
 /// `Memory` where none is found for it.
-#[tactic(auto, unfolding(zd_model::specs::Report::output))]
 pub fn output_text(alloc: Global, history: &History, outcome: Outcome) -> Result<Vec<u8>, Memory>
     ensures { IfOk result (λ v. v.items ≡ output history.now.items outcome) }
 {
-    with_last(alloc, history, outcome_line(outcome)).map_err(|_| Memory)
+    with_outcome(alloc, history, outcome).map_err(|_| Memory)
 }

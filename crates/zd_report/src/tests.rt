@@ -5,11 +5,11 @@ ghost use Rattle.std.specs.List.{AllByRecursion};
 ghost use Rattle.zd_model.specs.Entries.{answer_of, entry_of};
 ghost use Rattle.zd_model.specs.Report.{HasReply, IsReported};
 
-use crate::{ending_line, lines, outcome_line, output_text, text};
+use crate::{ending_line, fixed_line, lines, output_text, text};
 use std::alloc::{AllocError, Global};
 use std::test::Fail;
 use zd_base::{BLOCK, Memory, SECTOR, Why};
-use zd_model::{Bytes, Ending, Entry, NoVolume, Outcome, Reply, What};
+use zd_model::{BadLine, Bytes, Ending, Entry, NoVolume, Outcome, Reply, What};
 use zd_plain::{History, pattern};
 
 /// What a sector holds.
@@ -364,14 +364,28 @@ fn tells_each_end(rt: HostRuntime) -> Result<(), Fail> {
             "end 8 generation\n",
         ),
         (Outcome::NotBuilt, "end 11 not-built\n"),
+        (
+            Outcome::BadScript {
+                line: 12,
+                why: BadLine::Caller,
+            },
+            "end 2 script 12 caller\n",
+        ),
+        (
+            Outcome::BadScript {
+                line: 0,
+                why: BadLine::TooLong,
+            },
+            "end 2 script 0 long\n",
+        ),
     ] {
         let history = History::new(rt.alloc());
-        assert_eq!(rt; outcome_line(outcome), wanted);
         assert_eq!(rt;
             output_text(rt.alloc(), &history, outcome)?.as_slice(),
             wanted.as_bytes()
         );
     }
     assert_eq!(rt; ending_line(Ending::Ok), "end 0 ok\n");
+    assert_eq!(rt; fixed_line(Outcome::NotBuilt), "end 11 not-built\n");
     Ok(())
 }

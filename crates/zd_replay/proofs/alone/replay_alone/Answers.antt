@@ -1,11 +1,10 @@
-use Rattle.std.proofs.Common.{◌≡◌, ◌∙◌, sym, ap, subst, inl, inr, refl, arith, map, List, ℕ}
+use Rattle.std.proofs.Common.{◌≡◌, ◌∙◌, sym, ap, subst, inl, inr, refl, arith, map, List}
 use Rattle.std.specs.Prelude.{string_bytes, Err}
 use Rattle.std.proofs.lemmas.Bool.{false≢true}
 use Rattle.zd_model.specs.declared.texts.Outcome.TheVariants as outcomes
-use Rattle.zd_model.specs.Report.{status_of}
 use Rattle.zd_model.specs.declared.requests.Request.{Request}
 use Rattle.zd_replay.specs.Reads.{IsScriptOfReads, IsOtherScript}
-use Rattle.zd_replay.specs.Replay.{Ends, IsCommand, IsSessionStatus, IsRefusalStatus, script_outcome}
+use Rattle.zd_replay.specs.Replay.{IsCommand, IsSessionStatus, IsRefusalStatus, script_outcome}
 use Rattle.zd_replay.proofs.ReportLaws.{reports_alone, reports_unread, ends_unread, unread, unbuilt, no_usage, of_line}
 use Rattle.zd_replay.proofs.CompleteLaws.{complete, other_or_reads}
 use Rattle.zd_replay.proofs.alone.replay_alone.Goals as goal

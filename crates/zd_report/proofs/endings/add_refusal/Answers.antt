@@ -1,6 +1,6 @@
 use Rattle.std.proofs.Common.{refl, ◌∙◌}
 use Rattle.std.proofs.lemmas.List.{append_assoc}
-use Rattle.zd_replay.proofs.report.add_refusal.Goals as goal
+use Rattle.zd_report.proofs.endings.add_refusal.Goals as goal
 
 -- each part in turn, from the last back to the first
 pub returns : goal.returns
