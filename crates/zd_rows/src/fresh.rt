@@ -154,7 +154,8 @@ fn patterned(seed: u32, block: u32) -> [u8; 4096] {
     bytes
 }
 
-/// A block of data: where it stands, and the seed of its pattern. It is block `block` of chunk 0 too.
+/// A block of data of chunk 0: the zone that has it, its number in the chunk and so in the zone, and
+/// the seed of its pattern.
 #[derive(Clone, Copy)]
 pub struct Data {
     pub zone: u32,

@@ -6,8 +6,10 @@ use std::test::Fail;
 use zd_base::{Geometry, Layout};
 use zd_memdisk::MemDisk;
 
-/// The layout on a disk of 1,201 conventional and 3,586 sequential zones of 8 blocks. A set takes 600
-/// zones. The last block of the map, with the entry of the last chunk alone, is the first of zone 1.
+/// The layout on a disk of 1,201 conventional and 3,586 sequential zones of 8 blocks.
+///
+/// A set takes 600 zones. The last block of the map has the entry of the last chunk alone, and is the
+/// first block of zone 1.
 const LARGE: Layout = Layout {
     meta_blocks: 4796,
     reserved: 2,

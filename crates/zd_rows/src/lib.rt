@@ -1,7 +1,7 @@
 //! Whole runs over small volumes: what they print, and the status that they end with.
 //!
-//! Tests alone stand here, above all the crates that they run through. In their texts `;` stands for
-//! the line feed byte.
+//! Tests alone stand here, above all the crates that they run through. In their texts `;` is the line
+//! feed byte.
 #![tactic(auto)]
 
 #[cfg(test)]

@@ -31,7 +31,8 @@ pub fn lines(alloc: Global, text: &str) -> Result<Vec<u8>, AllocError> {
     Ok(bytes)
 }
 
-/// A source of a text, which gives at most `most` bytes a call and fails at the calls of these numbers.
+/// A source of a text. It gives at most `most` bytes a call, and fails at the calls of these numbers,
+/// counted from 1.
 pub fn source(
     alloc: Global,
     text: &str,
