@@ -79,6 +79,7 @@ fn a_sink_that_fails_is_told_where_nothing_else_was_wrong(rt: HostRuntime) -> Re
     expect_untold(&rt, &right, fresh(&rt)?, "", &[], 6)?;
     expect_untold(&rt, &["img"], fresh(&rt)?, "r 0 0 1;", &[], 1)?;
     expect_untold(&rt, &right, fresh(&rt)?, "r 0 0 1;", &[1], 5)?;
+    expect_untold(&rt, &right, fresh(&rt)?, "r 0 0;", &[], 2)?;
     expect_untold(&rt, &right, fresh(&rt)?, "w 0 0 1 1;", &[], 11)?;
     let broken = failing(&rt, DeviceCall::Geometry, None, 1)?;
     expect_untold(&rt, &right, broken, "r 0 0 1;", &[], 4)?;

@@ -78,7 +78,7 @@ fn as_many_blocks_are_read_as_a_script_may_have(rt: HostRuntime) -> Result<(), F
     let end = b"0 256 7 r 112 16 data z128 @0\nend 0 ok\n".as_slice();
     assert!(rt; sink.held().ends_with(end));
     let (ended, sink) = run_long(&rt, "r 0 0 1;")?;
-    assert_eq!(rt; ended, Status(11));
-    assert_eq!(rt; sink.held(), b"end 11 not-built\n".as_slice());
+    assert_eq!(rt; ended, Status(2));
+    assert_eq!(rt; sink.held(), b"end 2 script 257 long\n".as_slice());
     Ok(())
 }
