@@ -1,15 +1,16 @@
 //! Bitmaps: which blocks of a zone are valid.
 //!
 //! Bits are a slice of whole bitmap blocks of 4096 bytes: all bitmap blocks of a zone together, or
-//! some of them. Block `n` is bit `n % 8` of byte `n / 8`, the least bit first. A set bit is a valid
-//! block. Blocks are counted from the slice's first bit on, and every range of blocks ends inside
-//! the slice. No call needs whole bitmap blocks: all bytes are bits.
+//! some of them. Block `n` is bit `n % 8` of byte `n / 8`, the least bit first. A set bit is a
+//! valid block. Blocks are counted from the slice's first bit on, and every range of blocks ends
+//! inside the slice. No call needs whole bitmap blocks: all bytes are bits.
 #![tactic(auto)]
 
 ghost use Rattle.std.specs.Prelude.{◌≡◌, ◌+◌, ◌*◌, ◌<◌, ◌≤◌, ◌↔◌, length, true, false, IsTrue};
 ghost use Rattle.std.specs.Prelude.{IfNone, IfSome};
 ghost use Rattle.zd_model.specs.Tables.{is_set};
-ghost use Rattle.zd_bits.specs.Bits.{AllAre, SomeIs, GivesOnly, IsFirst, IsFirstValid, IsRun, weight_of};
+ghost use Rattle.zd_bits.specs.Bits.{AllAre, SomeIs, GivesOnly, IsFirst, IsFirstValid, IsRun};
+ghost use Rattle.zd_bits.specs.Bits.{weight_of};
 
 mod put;
 mod word;
@@ -25,7 +26,7 @@ pub fn valid(bits: &[u8], block: u32) -> bool
     (bits[block as usize / 8] >> (block % 8)) & 1 == 1
 }
 
-/// Makes `count` blocks from block `from` on valid. The answer says whether one of them wasn't.
+/// Makes `count` blocks from block `from` on valid. The answer says whether one wasn't.
 pub fn set_range(bits: &mut [u8], from: u32, count: u32) -> bool
     requires inside { from + count ≤ 8 * length bits.old }
     ensures value { IsTrue result ↔ SomeIs false bits.old from (from + count) }
@@ -35,7 +36,7 @@ pub fn set_range(bits: &mut [u8], from: u32, count: u32) -> bool
     put(bits, from as usize, from as usize + count as usize, true)
 }
 
-/// Makes `count` blocks from block `from` on invalid. The answer says whether one of them was valid.
+/// Makes `count` blocks from block `from` on invalid. The answer says whether one was valid.
 pub fn clear_range(bits: &mut [u8], from: u32, count: u32) -> bool
     requires inside { from + count ≤ 8 * length bits.old }
     ensures value { IsTrue result ↔ SomeIs true bits.old from (from + count) }

@@ -41,6 +41,16 @@ fn ranges_over_the_bounds_of_bytes(rt: HostRuntime) {
     assert!(rt; !clear_range(&mut bits, 3, 0));
 }
 
+#[test]
+fn bytes_that_fill_no_word(rt: HostRuntime) {
+    let mut bits = [0xff, 0x01, 0x80];
+    assert_eq!(rt; weight(&bits, 24), 10);
+    assert_eq!(rt; run_at(&bits, 1, 24), (true, 8));
+    assert_eq!(rt; first_valid(&bits, 9, 24), Some(23));
+    assert!(rt; set_range(&mut bits, 0, 24));
+    assert_eq!(rt; bits, [0xff, 0xff, 0xff]);
+}
+
 /// The bits of a zone of 65,536 blocks, of which those from 32,760 on but the last are valid.
 fn two_blocks() -> [u8; 8192] {
     let mut bits = [0; 8192];
