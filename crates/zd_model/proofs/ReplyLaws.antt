@@ -1,13 +1,13 @@
 -- A plain array of sectors stays one, and what it replies can be reported.
 use Rattle.std.proofs.Common.{◌≡◌, ℕ, zero, suc, ◌+◌, ◌-◌, ◌*◌, ◌<◌, ◌≤◌, Bool, true, false, cond, not}
-use Rattle.std.proofs.Common.{List, [], ◌∷◌, ◌++◌, length, map, take, drop, replicate, get_or, refl, sym, ap}
+use Rattle.std.proofs.Common.{List, [], ◌∷◌, ◌++◌, length, map, take, drop, replicate, refl, sym, ap}
 use Rattle.std.proofs.Common.{◌∙◌, arith, inl, inr, leb, All, subst}
 use borrow.Author.Tests.{leb-true}
 use Rattle.std.specs.List.{AllByRecursion, concat, range_with_len}
 use Rattle.std.proofs.lemmas.List.{length-append, length-drop, length-take-le}
 use Rattle.zd_model.specs.Bytes.{IsSector, zero_sector}
 use Rattle.zd_model.specs.History.{HistoryEntry, AllAnswer, entry_after, last_array}
-use Rattle.zd_model.specs.Plain.{Answer, pattern, ends_past, reply_within, reply_to, within_after, array_after}
+use Rattle.zd_model.specs.Plain.{Answer, pattern, ends_past, reply_within, reply_to, within_after}
 use Rattle.zd_model.specs.Plain.Answer.{Got, Done, Range, Fault}
 use Rattle.zd_model.specs.Report.{HasReply, IsReported}
 use Rattle.zd_model.specs.declared.requests.What.{What}

@@ -1,4 +1,4 @@
-use Rattle.std.proofs.Common.{◌≡◌, ◌<◌, ◌≤◌, ℕ, true, false, Bool, cond, ltb, refl, rules, arith, lit≤, lit<}
+use Rattle.std.proofs.Common.{◌≡◌, ◌<◌, ◌≤◌, ℕ, cond, ltb, refl, arith, lit≤, lit<}
 use borrow.Author.Tests.{lt-ltb, le-ltb}
 use Rattle.zd_model.proofs.SectorLaws.{zero_sector-sector}
 use Rattle.zd_examples.proofs.images.image_examples.Goals as goal

@@ -1,4 +1,4 @@
-use Rattle.std.proofs.Common.{◌≤◌, ◌+◌, ◌-◌, ◌^◌, min, arith, lit≤}
+use Rattle.std.proofs.Common.{◌≤◌, arith, lit≤}
 use Rattle.zd_examples.proofs.layouts.count_examples.Goals as goal
 
 pub returns-clause-one : goal.returns-clause-one
