@@ -27,8 +27,8 @@ row_told row = row_with row.kind row.count
 abbrev pub rows_text : List Row → List ℕ
 rows_text rows = join_with_byte 44 (map row_text rows)
 
--- a text behind which a row and the next sector's are to stand, and one that wants just the last
--- row, come to the same whatever follows
+-- two texts come to the same: one before a row, the next sector's row and any rows behind them; the
+-- other before their last row alone and the same rows behind it
 abbrev pub IsOwed : List ℕ → Row → Row → List ℕ → Row → Type 0
 IsOwed before row next after last = (rest : List Row) →
     before ++ rows_text (with_first row (with_first next rest))
