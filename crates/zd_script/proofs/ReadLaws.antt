@@ -1,5 +1,5 @@
 -- What was read of a source so far, its end, and too much.
-use Rattle.std.proofs.Common.{◌≡◌, ℕ, ◌+◌, ◌<◌, List, [], ◌++◌, length, Option, Some, ap, ◌∙◌, arith}
+use Rattle.std.proofs.Common.{◌≡◌, ℕ, ◌<◌, List, [], ◌++◌, length, Option, Some, ap, ◌∙◌, arith}
 use Rattle.std.proofs.lemmas.List.{length-append, nil_from_length}
 use Rattle.zd_model.specs.Script.{Refuses}
 use Rattle.zd_model.specs.Script.Refuses.{size}
