@@ -2,10 +2,9 @@
 use Rattle.std.proofs.Common.{◌≡◌, ℕ, zero, suc, ◌+◌, ◌<◌, List, [], ◌∷◌, ◌++◌, length, map, refl, sym, ap, ap₂, ◌∙◌, arith, subst}
 use Rattle.std.proofs.lemmas.List.{append_assoc, append-nil, length-append, map-append}
 use Rattle.std.proofs.lemmas.Grind.{flat_map-append}
-use Rattle.std.specs.Char.{IsAsciiDigit}
 use Rattle.zd_model.specs.Text.{numeral}
 use Rattle.zd_model.proofs.TextLaws.{tail_is}
-use Rattle.zd_script.specs.Number.{BeginsOther, HasNumber, HasField, fields, told}
+use Rattle.zd_script.specs.Number.{BeginsOther, HasField, fields, told}
 use Rattle.zd_script.proofs.NumberLaws.{same_number}
 
 -- so many more fields are left of a line

@@ -1,10 +1,9 @@
 -- A right request is all that its line tells, and which rule a line breaks.
-use Rattle.std.proofs.Common.{◌≡◌, ◌≢◌, ℕ, ◌+◌, ◌-◌, ◌<◌, ◌≤◌, ◌^◌, Result, Ok, Err, IfErr, List, [], ◌∷◌, ◌++◌, length, refl, sym, ap, ap₂, ◌∙◌, arith, subst}
-use Rattle.std.specs.Prelude.{sum_by}
+use Rattle.std.proofs.Common.{◌≡◌, ℕ, ◌-◌, ◌<◌, ◌^◌, List, [], ◌∷◌, ◌++◌, refl, sym, ap, ◌∙◌, arith}
 use Rattle.std.proofs.lemmas.List.{length-append}
 use Rattle.std.proofs.lemmas.List.Sums.{sum_by_push}
 use Rattle.zd_model.specs.Script.{HasNumbers, IsWithinLimits, BreaksRule, line_text, moved_blocks, discarded_blocks}
-use Rattle.zd_model.specs.Script.BreaksRule.{form, number, caller, long}
+use Rattle.zd_model.specs.Script.BreaksRule.{number, caller, long}
 use Rattle.zd_model.specs.declared.requests.What.{What}
 use Rattle.zd_model.specs.declared.requests.What.TheVariants.{Read, Write, Discard, Flush}
 use Rattle.zd_model.specs.declared.requests.Request.{Request}
@@ -14,7 +13,6 @@ use Rattle.zd_script.specs.Number.{told}
 use Rattle.zd_script.specs.Line.{IsRight, IsWrong, asks_of, line_of}
 use Rattle.zd_script.specs.Limits.{IsLeft, Spends}
 use Rattle.zd_script.specs.declared.limits.Limits.{Limits}
-use Rattle.zd_script.specs.declared.line.Asks.TheVariants as asks
 use Rattle.zd_script.specs.declared.line.Line.{Line}
 use Rattle.zd_script.proofs.LineForms.{IsLine}
 

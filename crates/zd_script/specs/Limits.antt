@@ -1,5 +1,5 @@
 -- What is left of the limits of a script.
-use Rattle.std.specs.Prelude.{◌≡◌, ℕ, ◌+◌, List, length, sum_by}
+use Rattle.std.specs.Prelude.{◌≡◌, ◌+◌, List, length, sum_by}
 use Rattle.zd_model.specs.Script.{moved_blocks, discarded_blocks}
 use Rattle.zd_model.specs.declared.requests.What.{What}
 use Rattle.zd_model.specs.declared.requests.Request.{Request}

@@ -1,5 +1,5 @@
 -- Lines whose numbers may have any size.
-use Rattle.std.specs.Prelude.{◌≡◌, ℕ, ◌<◌, ◌≤◌, ◌^◌}
+use Rattle.std.specs.Prelude.{◌<◌, ◌≤◌, ◌^◌}
 use Rattle.zd_model.specs.Script.{HasNumbers}
 use Rattle.zd_model.specs.declared.requests.What.{What}
 use Rattle.zd_model.specs.declared.requests.What.TheVariants.{Read, Write, Discard, Flush}

@@ -1,6 +1,7 @@
 //! One line of a script, with numbers of any size, and the request that it writes.
 
-ghost use Rattle.std.specs.Prelude.{◌≡◌, ◌≢◌, ◌<◌, ◌≤◌, ◌^◌, ◌++◌, List, ℕ, IfErr, IfNone, IfOk, IfSome};
+ghost use Rattle.std.specs.Prelude.{◌≡◌, ◌≢◌, ◌≤◌, ◌^◌, ◌++◌, List, ℕ};
+ghost use Rattle.std.specs.Prelude.{IfErr, IfNone, IfOk, IfSome};
 ghost use Rattle.zd_model.specs.Script.{HasNumbers, line_text};
 ghost use Rattle.zd_script.specs.Line.{HasBounds, IsRight, IsWrong, asks_of, line_of};
 

@@ -1,6 +1,7 @@
 //! Numbers in texts.
 
-ghost use Rattle.std.specs.Prelude.{◌≡◌, ◌≢◌, ◌∷◌, ◌++◌, ℕ, List, length, map, not, position, All, IsTrue, IfSome, IfNone};
+ghost use Rattle.std.specs.Prelude.{◌≡◌, ◌≢◌, ◌∷◌, ◌++◌, ℕ, List, All, IfNone, IfSome, IsTrue};
+ghost use Rattle.std.specs.Prelude.{length, map, not, position};
 ghost use Rattle.std.specs.Char.{is_ascii_digit, IsAsciiDigit};
 ghost use Rattle.zd_model.specs.Text.{numeral};
 ghost use Rattle.zd_script.specs.Number.{HasField, HasNumber, fields, told, value_after};

@@ -33,7 +33,8 @@ fn next(text: &[u8], limits: Limits) -> Result<(Request, &[u8], Limits), BadLine
     Ok((request, rest, left))
 }
 
-/// The plan of a script; or the first line that breaks a rule, and the first rule that it breaks.
+/// The plan of a script. Bytes that are no script are bad: in line 0 where they are too many, and else
+/// in the first line that breaks a rule, by the first rule that it breaks.
 pub fn parse(alloc: Global, bytes: &[u8]) -> Result<Plan, ScriptFault>
     ensures ok { IfOk result (λ plan. IsScript bytes.now plan) }
     ensures bad { IfBad result (λ line why. Refuses bytes.now line why) }

@@ -1,12 +1,9 @@
 //! The bytes of a script, from a source.
 
-ghost use Rattle.std.specs.Prelude.{◌≡◌, ◌+◌, ◌<◌, ◌≤◌, [], length, vec_len, IfOk, Some};
+ghost use Rattle.std.specs.Prelude.{◌≡◌, ◌<◌, ◌≤◌, length, vec_len, IfOk};
 ghost use Rattle.zd_base.specs.Faults.{Rose};
-ghost use Rattle.zd_disk.specs.Told.{WhereTold};
-ghost use Rattle.zd_model.specs.Script.{Refuses};
-ghost use Rattle.zd_model.specs.declared.texts.BadLine.TheVariants.{TooLong};
 ghost use Rattle.zd_script.specs.Fault.{IfBad};
-ghost use Rattle.zd_script.specs.Read.{ReadsOn};
+ghost use Rattle.zd_script.specs.Read.{ReadsAll, ReadsOn, ReadsTooMany};
 
 use crate::ScriptFault;
 use std::alloc::{AllocError, Global};
@@ -37,7 +34,7 @@ fn read_piece<S: Source>(
         ReadsOn (S.left from.old) (S.left from.new) n all.old.items all.new.items) }
     ensures most { IfOk result (λ n. n ≤ most) }
     ensures source { result ≡ Err ScriptFault.Source → Rose (S.faults from.old) (S.faults from.new) }
-    ensures right { IfBad result (λ line why. ⊥) }
+    ensures bad { IfBad result (λ line why. ⊥) }
     ensures later { S.faults from.old ≤ S.faults from.new }
 {
     let asked = piece.len().min(most);
@@ -49,18 +46,11 @@ fn read_piece<S: Source>(
     Ok(count)
 }
 
-/// All bytes up to the end of input. Of a script that is too long, reading stops at the byte that
-/// shows it.
+/// All bytes up to the end of input. A script that is too long is bad in line 0, and reading stops at
+/// the byte that shows it.
 pub fn read_all<S: Source>(alloc: Global, from: &mut S) -> Result<Vec<u8>, ScriptFault>
-    ensures ok { IfOk result (λ v. WhereTold (S.left from.old) (λ bytes. v.items ≡ bytes)) }
-    ensures size { IfOk result (λ v. vec_len v ≤ 67_108_864) }
-    ensures end { IfOk result (λ v.
-        WhereTold (S.left from.old) (λ bytes. S.left from.new ≡ Some [])) }
-    ensures long { IfBad result (λ line why. (line ≡ 0) × (why ≡ TooLong)) }
-    ensures bad { IfBad result (λ line why.
-        WhereTold (S.left from.old) (λ bytes. Refuses bytes line why)) }
-    ensures stops { IfBad result (λ line why. WhereTold (S.left from.old) (λ bytes.
-        WhereTold (S.left from.new) (λ rest. length bytes ≡ length rest + 67_108_865))) }
+    ensures ok { IfOk result (λ v. ReadsAll (S.left from.old) (S.left from.new) v.items) }
+    ensures bad { IfBad result (ReadsTooMany (S.left from.old) (S.left from.new)) }
     ensures source { result ≡ Err ScriptFault.Source → Rose (S.faults from.old) (S.faults from.new) }
     ensures later { S.faults from.old ≤ S.faults from.new }
 {

@@ -1,12 +1,28 @@
 //! Scripts that are read and parsed, and bytes that are refused.
 
-use crate::{BadLine, Plan, Request, ScriptFault, What, parse, read_all};
+use crate::{BadLine, Request, ScriptFault, What, parse, read_all};
 use std::alloc::{AllocError, Global};
 use std::test::Fail;
 use zd_ports::{MemSource, Source};
 
 const ONE_OF_EACH: &[u8] =
     b"r 0 18446744073709551615 1\nw 63 5 32767 4294967295\nd 10 0 4194304\nf 7\n";
+
+/// Scripts at the edges of the rules, and how many requests they have.
+const ACCEPTED: &[(&[u8], usize)] = &[
+    (b"", 0),
+    (b"f 63\n", 1),
+    (b"r 0 0 1\n", 1),
+    (b"r 10 100 1000\n", 1),
+    (b"r 0 0 32768\n", 1),
+    (b"w 0 0 32768 0\n", 1),
+    (b"d 0 0 4194304\n", 1),
+    (b"w 0 18446744073709551615 1 4294967295\n", 1),
+    (b"d 63 18446744073709551615 1\n", 1),
+    (b"r 0 0 32767\nw 0 0 1 1\n", 2),
+    (b"d 0 0 4194303\nd 0 0 1\n", 2),
+    (b"r 0 0 32768\nd 0 0 4194304\nf 0\n", 3),
+];
 
 /// Bytes that are no script, the line that is refused, and why.
 const REFUSED: &[(&[u8], u32, BadLine)] = &[
@@ -63,18 +79,8 @@ const REFUSED: &[(&[u8], u32, BadLine)] = &[
     (b"f 0\n\n", 2, BadLine::Form),
     (b"f 0\nf 0", 2, BadLine::Form),
     (b"f 0\nf 0\nr 0 0 1 \nf 64\n", 3, BadLine::Form),
-    (
-        b"r 0 0111111111111111111111111111111111111111111111111111111111111111111111111111111111111111111111111111 1\n",
-        1,
-        BadLine::Form,
-    ),
     (b"r 0 18446744073709551616 1 \n", 1, BadLine::Form),
     (b"r 64 0 0", 1, BadLine::Form),
-    (
-        b"f 9999999999999999999999999999999999999999999999999999999999999999999999999999999999999999999999999999",
-        1,
-        BadLine::Form,
-    ),
     (b"r 0 18446744073709551616 1\n", 1, BadLine::Number),
     (b"w 0 18446744073709551616 1 1\n", 1, BadLine::Number),
     (b"d 0 18446744073709551616 1\n", 1, BadLine::Number),
@@ -87,47 +93,7 @@ const REFUSED: &[(&[u8], u32, BadLine)] = &[
     (b"w 0 0 1 4294967296\n", 1, BadLine::Number),
     (b"r 0 0 18446744073709551615\n", 1, BadLine::Number),
     (b"r 0 0 18446744073709551616\n", 1, BadLine::Number),
-    (
-        b"r 0 9999999999999999999999999999999999999999999999999999999999999999999999999999999999999999999999999999 1\n",
-        1,
-        BadLine::Number,
-    ),
-    (
-        b"w 0 9999999999999999999999999999999999999999999999999999999999999999999999999999999999999999999999999999 1 1\n",
-        1,
-        BadLine::Number,
-    ),
-    (
-        b"d 0 9999999999999999999999999999999999999999999999999999999999999999999999999999999999999999999999999999 1\n",
-        1,
-        BadLine::Number,
-    ),
-    (
-        b"r 0 0 9999999999999999999999999999999999999999999999999999999999999999999999999999999999999999999999999999\n",
-        1,
-        BadLine::Number,
-    ),
-    (
-        b"w 0 0 9999999999999999999999999999999999999999999999999999999999999999999999999999999999999999999999999999 1\n",
-        1,
-        BadLine::Number,
-    ),
-    (
-        b"d 0 0 9999999999999999999999999999999999999999999999999999999999999999999999999999999999999999999999999999\n",
-        1,
-        BadLine::Number,
-    ),
-    (
-        b"w 0 0 1 9999999999999999999999999999999999999999999999999999999999999999999999999999999999999999999999999999\n",
-        1,
-        BadLine::Number,
-    ),
     (b"r 64 0 0\n", 1, BadLine::Number),
-    (
-        b"r 9999999999999999999999999999999999999999999999999999999999999999999999999999999999999999999999999999 0 0\n",
-        1,
-        BadLine::Number,
-    ),
     (b"w 64 0 0 0\n", 1, BadLine::Number),
     (b"f 0\nf 1\nr 0 0 0\n", 3, BadLine::Number),
     (b"r 64 0 1\n", 1, BadLine::Caller),
@@ -136,26 +102,6 @@ const REFUSED: &[(&[u8], u32, BadLine)] = &[
     (b"f 64\n", 1, BadLine::Caller),
     (b"f 256\n", 1, BadLine::Caller),
     (b"f 18446744073709551616\n", 1, BadLine::Caller),
-    (
-        b"f 9999999999999999999999999999999999999999999999999999999999999999999999999999999999999999999999999999\n",
-        1,
-        BadLine::Caller,
-    ),
-    (
-        b"r 9999999999999999999999999999999999999999999999999999999999999999999999999999999999999999999999999999 0 1\n",
-        1,
-        BadLine::Caller,
-    ),
-    (
-        b"w 9999999999999999999999999999999999999999999999999999999999999999999999999999999999999999999999999999 0 1 1\n",
-        1,
-        BadLine::Caller,
-    ),
-    (
-        b"d 9999999999999999999999999999999999999999999999999999999999999999999999999999999999999999999999999999 0 1\n",
-        1,
-        BadLine::Caller,
-    ),
     (b"r 64 0 32769\n", 1, BadLine::Caller),
     (b"f 63\nf 64\n", 2, BadLine::Caller),
     (b"r 0 0 32769\n", 1, BadLine::TooLong),
@@ -168,6 +114,27 @@ const REFUSED: &[(&[u8], u32, BadLine)] = &[
     (b"r 0 0 32768\nw 0 0 1 1\n", 2, BadLine::TooLong),
     (b"d 0 0 4194304\nd 0 0 1\n", 2, BadLine::TooLong),
     (b"r 0 0 32768\nd 0 0 4194305\n", 2, BadLine::TooLong),
+];
+
+const HUNDRED_DIGITS: &[u8] =
+    b"1234567890123456789012345678901234567890123456789012345678901234567890123456789012345678901234567890";
+
+/// What stands before and behind a hundred digits, and why the line is refused.
+const AROUND_HUNDRED_DIGITS: &[(&[u8], &[u8], BadLine)] = &[
+    (b"r 0 ", b" 1\n", BadLine::Number),
+    (b"r 0 0 ", b"\n", BadLine::Number),
+    (b"w 0 ", b" 1 1\n", BadLine::Number),
+    (b"w 0 0 ", b" 1\n", BadLine::Number),
+    (b"w 0 0 1 ", b"\n", BadLine::Number),
+    (b"d 0 ", b" 1\n", BadLine::Number),
+    (b"d 0 0 ", b"\n", BadLine::Number),
+    (b"r ", b" 0 0\n", BadLine::Number),
+    (b"r ", b" 0 1\n", BadLine::Caller),
+    (b"w ", b" 0 1 1\n", BadLine::Caller),
+    (b"d ", b" 0 1\n", BadLine::Caller),
+    (b"f ", b"\n", BadLine::Caller),
+    (b"f ", b"", BadLine::Form),
+    (b"r 0 0", b" 1\n", BadLine::Form),
 ];
 
 /// So many lines of flushes.
@@ -215,7 +182,9 @@ fn lines_are_their_plan(rt: HostRuntime) -> Result<(), Fail> {
         },
     ];
     assert_eq!(rt; requests.as_slice(), wanted.as_slice());
-    assert!(rt; parse(rt.alloc(), b"")?.is_empty());
+    for (script, count) in ACCEPTED {
+        assert_eq!(rt; parse(rt.alloc(), script)?.len(), *count, "at {script:?}");
+    }
     Ok(())
 }
 
@@ -231,15 +200,29 @@ fn other_bytes_are_refused(rt: HostRuntime) {
 }
 
 #[test]
-fn a_script_has_a_million_requests(rt: HostRuntime) -> Result<(), Fail> {
-    let most = flushes(rt.alloc(), 1_000_000)?;
-    assert_eq!(rt; parse(rt.alloc(), &most)?.len(), 1_000_000);
-    let more = flushes(rt.alloc(), 1_000_001)?;
+fn a_hundred_digits_are_a_number(rt: HostRuntime) -> Result<(), Fail> {
+    for (before, behind, why) in AROUND_HUNDRED_DIGITS {
+        let mut script = before.to_vec(rt.alloc())?;
+        script.extend_from_slice(HUNDRED_DIGITS)?;
+        script.extend_from_slice(behind)?;
+        let wanted = ScriptFault::Bad { line: 1, why: *why };
+        assert_eq!(rt;
+            refusal(rt.alloc(), &script),
+            Some(wanted),
+            "behind {before:?}"
+        );
+    }
+    Ok(())
+}
+
+#[test]
+fn a_script_has_a_million_requests_at_most(rt: HostRuntime) -> Result<(), Fail> {
+    let script = flushes(rt.alloc(), 1_000_001)?;
     let wanted = ScriptFault::Bad {
         line: 1_000_001,
         why: BadLine::TooLong,
     };
-    assert_eq!(rt; refusal(rt.alloc(), &more), Some(wanted));
+    assert_eq!(rt; refusal(rt.alloc(), &script), Some(wanted));
     Ok(())
 }
 

@@ -1,4 +1,4 @@
-use Rattle.std.proofs.Common.{◌≡◌, ◌<◌, ◌+◌, List, ℕ, length, take, set, sym, arith, subst}
+use Rattle.std.proofs.Common.{◌≡◌, ◌<◌, ◌+◌, length, set, sym, arith, subst}
 use Rattle.std.proofs.lemmas.List.{length-replicate, length-set, take_more_set}
 use Rattle.zd_script.proofs.NumberLaws.{where_none}
 use Rattle.zd_script.proofs.FieldLaws.{HasFields, no_fields, one_more_field, no_more_field}
