@@ -1,18 +1,17 @@
 -- What a writing call makes of a store and its record.
 use Rattle.std.proofs.Common.{◌≡◌, ℕ, ◌+◌, ◌-◌, ◌*◌, ◌^◌, ◌<◌, ◌≤◌, min, List, [], ◌∷◌, ◌++◌, length, take, true, false, inl, inr, refl, ap, sym, ◌∙◌, subst, arith, length-append}
 use Rattle.std.proofs.lemmas.Bool.{cases_lt}
-use Rattle.std.proofs.lemmas.List.{append-nil}
-use Rattle.zd_base.specs.Geometry.{Shape, zone_sectors}
-use Rattle.zd_model.specs.Image.{Image, IsImage, SameZone, Same}
-use Rattle.zd_model.specs.Left.{Event, replay, Call, Since, after_call, since_flush, IsLeft, now_by}
+use Rattle.zd_base.specs.Geometry.{Shape}
+use Rattle.zd_model.specs.Image.{Image, IsImage, Same}
+use Rattle.zd_model.specs.Left.{Event, replay, Call, Since, since_flush, IsLeft, now_by}
 use Rattle.zd_model.specs.Left.Event.{Clear}
 use Rattle.zd_model.specs.Left.Call.{Does, Flushes}
 use Rattle.zd_model.proofs.EventLaws.{same_test, other_test, replay-append, SameZone-refl}
-use Rattle.zd_model.proofs.LeftLaws.{calls-push, geometry-now, IsImage-same}
+use Rattle.zd_model.proofs.LeftLaws.{calls-push, IsImage-same}
 use Rattle.zd_disk.specs.Growth.{Grows, puts}
 use Rattle.zd_disk.specs.Steps.{Wrote, WriteStep, WriteLeaves, WasReset, ResetStep, ResetLeaves, count_of}
 use Rattle.zd_disk.proofs.PutLaws.{wrote_front}
-use Rattle.zd_disk.proofs.SameSteps.{Same-refl, Same-back, Same-trans, wrote_same, was_reset_same}
+use Rattle.zd_disk.proofs.SameSteps.{Same-refl, Same-back, wrote_same, was_reset_same}
 use Rattle.zd_disk.proofs.GrowthLaws.{grows_write, grows_reset, grows_no_reset, grows_flush, grows_nothing, flush_durable}
 use Rattle.zd_memdisk.specs.Calls.{not_begun}
 use Rattle.zd_memdisk.specs.Recorded.{IsRecorded}

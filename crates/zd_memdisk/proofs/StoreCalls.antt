@@ -1,7 +1,6 @@
 -- What a call makes of a store with its record, by what the record noted.
-use Rattle.std.proofs.Common.{◌≡◌, ℕ, ◌+◌, ◌-◌, ◌*◌, ◌^◌, ◌<◌, ◌≤◌, List, [], ◌∷◌, ◌++◌, length, take, Bool, true, false, inl, inr, arith}
+use Rattle.std.proofs.Common.{◌≡◌, ℕ, ◌-◌, ◌*◌, ◌^◌, ◌<◌, ◌≤◌, List, [], ◌∷◌, ◌++◌, length, take, Bool, true, false, inl, inr, arith}
 use Rattle.std.proofs.lemmas.Bool.{cases_lt}
-use Rattle.zd_base.specs.Geometry.{zone_sectors}
 use Rattle.zd_model.specs.Image.{Image, IsImage, Same}
 use Rattle.zd_model.specs.Left.{IsLeft}
 use Rattle.zd_disk.specs.Steps.{Wrote, WriteStep, WriteLeaves, WasReset, ResetStep, ResetLeaves, count_of}
@@ -68,3 +67,11 @@ module _ (d : RecordedStore) (new : Record) where
   pub flush_lasts : record_calls new ≡ calls_by d ++ call_by (writing.Flush true) [] ∷ []
       → next d.calls < 2 ^ 64 - 1 → (c : Image) → IsLeft (first_image d) (record_calls new) (next d.calls) c → Same (now_image d) c
   flush_lasts is = lasts (first_image d) (now_image d) (calls_by d) (record_calls new) d.calls d.recorded (image d.store) is
+
+  -- a call that was refused, while the count of calls is below its end
+  pub skips : (d.history.skipped < 2 ^ 64 - 1 → record_calls new ≡ calls_by d ++ not_begun ∷ [])
+      → next d.calls < 2 ^ 64 - 1 → record_calls new ≡ calls_by d ++ not_begun ∷ []
+  skips one small =
+      let h = d.history in
+      let count = d.recorded.counted (omega arith) in
+      one (omega (arith, skipped_within h.noted.items h.bytes.items h.skipped))

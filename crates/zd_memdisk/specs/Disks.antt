@@ -1,12 +1,13 @@
 -- What contracts see of a disk in memory.
-use Rattle.std.specs.Prelude.{◌≡◌, ◌⊎◌, ℕ, ◌+◌, ◌*◌, ◌/◌, ◌<◌, ◌≤◌, IsTrue, if◌then◌else◌, List, take, Option, Result, OnOk, OnErr, IsErr, is_err, ◌↔◌}
+use Rattle.std.specs.Prelude.{◌≡◌, ◌⊎◌, ℕ, ◌+◌, ◌*◌, ◌/◌, ◌-◌, ◌<◌, ◌≤◌, ◌^◌, IsTrue, if◌then◌else◌, List, [], ◌∷◌, ◌++◌, take, Option, Result, OnOk, OnErr, IsErr, is_err, ◌↔◌}
 use Rattle.zd_base.specs.Faults.{HasCause}
 use Rattle.zd_base.specs.Geometry.{Shape}
-use Rattle.zd_model.specs.Image.{Image}
+use Rattle.zd_model.specs.Image.{Image, Same}
 use Rattle.zd_model.specs.Left.{Call, IsLeft}
-use Rattle.zd_disk.specs.Steps.{count_of, Wrote, WriteStep, WasReset, ResetStep}
+use Rattle.zd_disk.specs.Steps.{count_of, Wrote, WriteStep, WasReset}
 use Rattle.zd_disk.specs.Told.{next_count}
 use Rattle.zd_memdisk.specs.Fails.{names, all_counted}
+use Rattle.zd_memdisk.specs.Calls.{not_begun}
 use Rattle.zd_memdisk.specs.Records as records
 use Rattle.zd_memdisk.specs.RecordedStores.{first_image, now_image, calls_by}
 use Rattle.zd_memdisk.specs.declared.fails.DeviceCall.{DeviceCall}
@@ -113,3 +114,20 @@ pub record DidWrite {T E : Type 0} (zone start : ℕ) (bytes : List ℕ) (old ne
 pub record DidReset {T E : Type 0} (zone : ℕ) (old new : Image) (result : Result T E) : Type 0 where
   pub ok : OnOk result (WasReset zone old new)
   pub err : OnErr result (new ≡ old)
+
+-- The record has one more call: this one where it was done, that one where the list had it fail, and one
+-- that wasn't begun where there was no room for it. The beginning stays.
+pub record Notes {T E : Type 0} (call : DeviceCall) (zone : Option ℕ) (sectors : ℕ) (done failed : Call)
+    (old new : MemDisk) (result : Result T E) : Type 0 where
+  pub beginning : disk_beginning new ≡ disk_beginning old
+  pub ok : OnOk result (disk_history new ≡ disk_history old ++ done ∷ [])
+  pub err : HasRoom sectors old → OnErr result (disk_history new ≡ disk_history old ++ failed ∷ [])
+  pub refused : (Names old call zone → ⊥) → disk_calls new < 2 ^ 64 - 1
+      → OnErr result (disk_history new ≡ disk_history old ++ not_begun ∷ [])
+  pub either : disk_calls new < 2 ^ 64 - 1 → OnErr result
+      ((disk_history new ≡ disk_history old ++ failed ∷ []) ⊎ (disk_history new ≡ disk_history old ++ not_begun ∷ []))
+
+-- it has had no writing call yet
+pub record IsNew (d : MemDisk) : Type 0 where
+  pub beginning : Same (disk_beginning d) (disk_image d)
+  pub history : disk_history d ≡ []

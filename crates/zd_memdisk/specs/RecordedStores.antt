@@ -1,7 +1,8 @@
 -- What contracts see of a store with its record.
-use Rattle.std.specs.Prelude.{◌≡◌, ℕ, List}
+use Rattle.std.specs.Prelude.{◌≡◌, ℕ, ◌-◌, ◌<◌, ◌^◌, List, [], ◌∷◌, ◌++◌, Result, OnOk, OnErr}
 use Rattle.zd_model.specs.Image.{Image}
 use Rattle.zd_model.specs.Left.{Call, IsLeft}
+use Rattle.zd_memdisk.specs.Calls.{not_begun}
 use Rattle.zd_memdisk.specs.Stores.{store_image}
 use Rattle.zd_memdisk.specs.Records.{record_calls}
 use Rattle.zd_memdisk.specs.declared.recorded.RecordedStore.{RecordedStore}
@@ -25,3 +26,9 @@ pub record IsSameStore (old new : RecordedStore) : Type 0 where
   pub store : new.store ≡ old.store
   pub history : calls_by new ≡ calls_by old
   pub count : new.calls ≡ old.calls
+
+-- the record has this call more where there was memory for it, and else one that wasn't begun
+pub record IsNoted {T E : Type 0} (call : Call) (old new : RecordedStore) (result : Result T E) : Type 0 where
+  pub first : new.first ≡ old.first
+  pub ok : OnOk result (calls_by new ≡ calls_by old ++ call ∷ [])
+  pub err : OnErr result (new.calls < 2 ^ 64 - 1 → calls_by new ≡ calls_by old ++ not_begun ∷ [])

@@ -4,6 +4,7 @@ ghost use Rattle.std.specs.Prelude.{◌≡◌, ◌+◌, ◌-◌, ◌*◌, ◌/�
 ghost use Rattle.zd_base.specs.Faults.{HasCause};
 ghost use Rattle.zd_base.specs.Geometry.{zone_sectors};
 ghost use Rattle.zd_model.specs.Image.{Image, Same, run_of};
+ghost use Rattle.zd_model.specs.Left.Call.{Flushes};
 ghost use Rattle.zd_disk.specs.Growth.{Grows, Keeps};
 ghost use Rattle.zd_disk.specs.Steps.{count_of, WriteStep, WriteLeaves, ResetStep, ResetLeaves};
 ghost use Rattle.zd_disk.specs.Told.{next_count, IsSequentialZone, IsInside};
@@ -11,7 +12,8 @@ ghost use Rattle.zd_memdisk.specs.Fails.{CountsCalls, names, all_counted};
 ghost use Rattle.zd_memdisk.specs.Stored.{IsBlank};
 ghost use Rattle.zd_memdisk.specs.Disks.{disk_geometry, disk_image, disk_calls, disk_faults, disk_fails, disk_left};
 ghost use Rattle.zd_memdisk.specs.Disks.{spare_calls, spare_sectors, HasRoom, UsesRoom, ObeysList, ObeysRoom, CountsFault, IsSameDisk};
-ghost use Rattle.zd_memdisk.specs.Disks.{front_half, DidWrite, DidReset};
+ghost use Rattle.zd_memdisk.specs.Disks.{front_half, DidWrite, DidReset, Notes, IsNew};
+ghost use Rattle.zd_memdisk.specs.Calls.{write_call, reset_call};
 ghost use Rattle.zd_memdisk.specs.DiskLaws.{disk_agrees, disk_shaped, disk_leaves, disk_reads};
 
 use crate::fails::{DeviceCall, Fail, count_call};
@@ -47,6 +49,7 @@ impl MemDisk {
     pub fn blank(alloc: Global, geometry: Geometry) -> Result<MemDisk, Memory>
         ensures zones { IfOk result (λ d. IsBlank geometry (disk_image d)) }
         ensures calls { IfOk result (λ d. disk_calls d ≡ 0) }
+        ensures left { IfOk result IsNew }
         ensures faults { IfOk result (λ d. disk_faults d ≡ 0) }
         ensures fails { IfOk result (λ d. disk_fails d ≡ []) }
     {
@@ -194,6 +197,9 @@ impl ZonedDisk for MemDisk {
         requires pointer { (disk_geometry self.old).conv ≤ zone
             → start ≡ (disk_image self.old).held zone }
         ensures did { DidWrite zone start bytes.now self.old self.new result }
+        ensures history { Notes DeviceCall.Write (Some zone) (count_of bytes.now)
+            (write_call zone start bytes.now (count_of bytes.now))
+            (write_call zone start bytes.now (count_of bytes.now / 2)) self.old self.new result }
         ensures told { disk_geometry self.new ≡ disk_geometry self.old }
         ensures calls { disk_calls self.new ≡ next_count (disk_calls self.old) }
         ensures left { disk_calls self.new < 2 ^ 64 - 1 →
@@ -212,6 +218,8 @@ impl ZonedDisk for MemDisk {
     fn reset(&mut self, zone: ZoneNo) -> Result<(), Failed>
         requires { IsSequentialZone zone (disk_geometry self.old) }
         ensures did { DidReset zone (disk_image self.old) (disk_image self.new) result }
+        ensures history { Notes DeviceCall.Reset (Some zone) 0 (reset_call zone true) (reset_call zone false)
+            self.old self.new result }
         ensures told { disk_geometry self.new ≡ disk_geometry self.old }
         ensures calls { disk_calls self.new ≡ next_count (disk_calls self.old) }
         ensures left { disk_calls self.new < 2 ^ 64 - 1 →
@@ -227,6 +235,8 @@ impl ZonedDisk for MemDisk {
 
     fn flush(&mut self) -> Result<(), Failed>
         ensures zones { disk_image self.new ≡ disk_image self.old }
+        ensures history { Notes DeviceCall.Flush None 0 (Flushes true) (Flushes false)
+            self.old self.new result }
         ensures told { disk_geometry self.new ≡ disk_geometry self.old }
         ensures calls { disk_calls self.new ≡ next_count (disk_calls self.old) }
         ensures left { disk_calls self.new < 2 ^ 64 - 1 →

@@ -1,12 +1,14 @@
 //! A store with the record of the calls that made it so.
 
-ghost use Rattle.std.specs.Prelude.{◌≡◌, ◌+◌, ◌-◌, ◌*◌, ◌<◌, ◌≤◌, ◌^◌, ℕ, length, take, Bool, true, false, IfOk, OnOk, OnErr, IsOk};
+ghost use Rattle.std.specs.Prelude.{◌≡◌, ◌+◌, ◌-◌, ◌*◌, ◌<◌, ◌≤◌, ◌^◌, ℕ, [], length, take, Bool, true, false, IfOk, OnOk, OnErr, IsOk};
 ghost use Rattle.zd_model.specs.Image.{Image, Same};
+ghost use Rattle.zd_model.specs.Left.Call.{Flushes};
 ghost use Rattle.zd_disk.specs.Growth.{Grows};
 ghost use Rattle.zd_disk.specs.Steps.{count_of, Wrote, WriteStep, WriteLeaves, WasReset, ResetStep, ResetLeaves};
 ghost use Rattle.zd_disk.specs.Told.{next_count, IsSequentialZone, IsInside};
 ghost use Rattle.zd_memdisk.specs.Stored.{IsBlank};
 ghost use Rattle.zd_memdisk.specs.Stores.{store_image};
+ghost use Rattle.zd_memdisk.specs.Calls.{write_call, reset_call};
 ghost use Rattle.zd_memdisk.specs.Records.{record_calls, HasRoom, HasRoomFor, UsesRoom};
 ghost use Rattle.zd_memdisk.specs.Recorded.{IsRecorded};
 
@@ -26,11 +28,13 @@ pub struct RecordedStore {
 }
 
 impl RecordedStore {
-    ghost use Rattle.zd_memdisk.specs.RecordedStores.{now_image, left_by, IsSameStore};
+    ghost use Rattle.zd_memdisk.specs.RecordedStores.{first_image, now_image, calls_by, left_by, IsSameStore, IsNoted};
 
     /// Zones of zeros with all pointers 0, and no calls.
     pub fn blank(alloc: Global, geometry: Geometry) -> Result<RecordedStore, AllocError>
         ensures blank { IfOk result (λ s. IsBlank geometry (now_image s)) }
+        ensures first { IfOk result (λ s. Same (first_image s) (now_image s)) }
+        ensures history { IfOk result (λ s. calls_by s ≡ []) }
         ensures calls { IfOk result (λ s. s.calls ≡ 0) }
     {
         let first = Store::blank(alloc, geometry)?;
@@ -82,6 +86,7 @@ impl RecordedStore {
         ensures ok { OnOk result
             (Wrote zone start (take (512 * put) bytes.now) (now_image self.old) (now_image self.new)) }
         ensures err { OnErr result (now_image self.new ≡ now_image self.old) }
+        ensures history { IsNoted (write_call zone start bytes.now put) self.old self.new result }
         ensures told { self.new.store.geometry ≡ self.old.store.geometry }
         ensures calls { self.new.calls ≡ next_count self.old.calls }
         ensures left { self.new.calls < 2 ^ 64 - 1 → Grows self.old.calls (left_by self.old) (left_by self.new)
@@ -112,6 +117,7 @@ impl RecordedStore {
         ensures ok { OnOk result (done ≡ true → WasReset zone (now_image self.old) (now_image self.new)) }
         ensures still { OnOk result (done ≡ false → now_image self.new ≡ now_image self.old) }
         ensures err { OnErr result (now_image self.new ≡ now_image self.old) }
+        ensures history { IsNoted (reset_call zone done) self.old self.new result }
         ensures told { self.new.store.geometry ≡ self.old.store.geometry }
         ensures calls { self.new.calls ≡ next_count self.old.calls }
         ensures left { self.new.calls < 2 ^ 64 - 1 → Grows self.old.calls (left_by self.old) (left_by self.new)
@@ -120,7 +126,11 @@ impl RecordedStore {
         ensures rest { UsesRoom 0 self.old.history self.new.history }
     {
         self.calls = self.calls.saturating_add(1);
-        if self.history.note(WritingCall::Reset { zone, done }, &[]).is_err() {
+        if self
+            .history
+            .note(WritingCall::Reset { zone, done }, &[])
+            .is_err()
+        {
             return Err(Memory);
         }
         if done {
@@ -134,6 +144,7 @@ impl RecordedStore {
     /// `Memory` counts the call as one that wasn't begun.
     pub fn flush(&mut self, ok: bool) -> Result<(), Memory>
         ensures zones { now_image self.new ≡ now_image self.old }
+        ensures history { IsNoted (Flushes ok) self.old self.new result }
         ensures told { self.new.store.geometry ≡ self.old.store.geometry }
         ensures calls { self.new.calls ≡ next_count self.old.calls }
         ensures left { self.new.calls < 2 ^ 64 - 1 →

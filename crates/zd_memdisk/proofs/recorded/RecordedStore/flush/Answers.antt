@@ -1,4 +1,4 @@
-use Rattle.std.proofs.Common.{◌≡◌, ℕ, ◌-◌, ◌^◌, ◌<◌, ◌≤◌, ◌++◌, [], ◌∷◌, true, false, Bool, Result, Ok, Err, OnOk, OnErr, subst, arith}
+use Rattle.std.proofs.Common.{◌≡◌, ◌-◌, ◌^◌, ◌<◌, ◌≤◌, ◌++◌, [], ◌∷◌, true, Bool, Result, Ok, Err, OnOk, OnErr, refl, subst}
 use Rattle.zd_model.specs.Image.{Image, Same}
 use Rattle.zd_model.specs.Left.{IsLeft}
 use Rattle.zd_memdisk.specs.Calls.{call_by, not_begun}
@@ -9,7 +9,7 @@ use Rattle.zd_memdisk.specs.declared.record.WritingCall.TheVariants as writing
 use Rattle.zd_memdisk.specs.declared.recorded.RecordedStore.{RecordedStore}
 use Rattle.zd_disk.proofs.SameSteps.{Same-refl}
 use Rattle.zd_memdisk.proofs.RecordedCalls.{Called, next}
-use Rattle.zd_memdisk.proofs.StoreCalls.{refused, flushed, flush_lasts}
+use Rattle.zd_memdisk.proofs.StoreCalls.{refused, skips, flushed, flush_lasts}
 use Rattle.zd_memdisk.proofs.recorded.RecordedStore.flush.Goals as goal
 
 called : {T E : Type 0} (d : RecordedStore) (new : Record) (ok : Bool) (r : Result T E)
@@ -41,3 +41,16 @@ pub returns-clause-durable : goal.returns-clause-durable
 returns-clause-durable c =
     let e = c.note.ensures in
     rw c.saturating_add-self.ensures (last c.args.self.now c.note.new.self c.args.ok c.note.result e.ok)
+
+skipped : {T E : Type 0} (d : RecordedStore) (new : Record) (r : Result T E)
+    → OnErr r (d.history.skipped < 2 ^ 64 - 1 → record_calls new ≡ calls_by d ++ not_begun ∷ [])
+    → OnErr r (next d.calls < 2 ^ 64 - 1 → record_calls new ≡ calls_by d ++ not_begun ∷ [])
+skipped d new (Ok x) one = tt
+skipped d new (Err x) one = skips d new one
+
+pub returns-clause-history : goal.returns-clause-history
+returns-clause-history c = record {
+  first = refl;
+  ok = c.note.ensures.ok;
+  err = rw c.saturating_add-self.ensures (skipped c.args.self.now c.note.new.self c.note.result c.note.ensures.err);
+}
