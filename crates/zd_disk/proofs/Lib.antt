@@ -1,2 +1,9 @@
+pub mod Before
+pub mod BeforeCalls
+pub mod GrowthLaws
+pub mod Moments
+pub mod PutLaws
+pub mod SameSteps
 pub mod StepLaws
 pub mod ToldLaws
+pub mod ZoneChange

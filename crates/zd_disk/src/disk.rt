@@ -1,10 +1,11 @@
 //! The calls of a zoned disk, with what each needs, does and tells.
 
-ghost use Rattle.std.specs.Prelude.{◌≡◌, ◌+◌, ◌*◌, ◌<◌, ◌≤◌, ℕ, Option, Some, length, IfOk, OnOk, OnErr, IfSome, IsSomeAnd};
+ghost use Rattle.std.specs.Prelude.{◌≡◌, ◌+◌, ◌-◌, ◌*◌, ◌<◌, ◌≤◌, ◌^◌, ℕ, Option, Some, length, IfOk, OnOk, OnErr, IfSome, IsSome, IsSomeAnd};
 ghost use Rattle.zd_base.specs.Faults.{HasCause};
 ghost use Rattle.zd_base.specs.Geometry.{Shape, zone_count, zone_sectors};
 ghost use Rattle.zd_model.specs.Image.{Image, IsImage, Same, run_of};
-ghost use Rattle.zd_disk.specs.Steps.{count_of, Wrote, WriteStep, WasReset, ResetStep};
+ghost use Rattle.zd_disk.specs.Growth.{Grows, Keeps};
+ghost use Rattle.zd_disk.specs.Steps.{count_of, Wrote, WriteStep, WriteLeaves, WasReset, ResetStep, ResetLeaves};
 ghost use Rattle.zd_disk.specs.Told.{Both, next_count, IsSequentialZone, IsInside};
 
 use zd_base::{Failed, Geometry, ZoneNo};
@@ -12,6 +13,10 @@ use zd_base::{Failed, Geometry, ZoneNo};
 /// A disk of conventional and sequential zones. Places are sectors of 512 bytes inside a zone.
 ///
 /// A call fails only where the count of faults rose. Writing calls are `write`, `reset` and `flush`.
+///
+/// Where a disk tells its zones, it also tells what a stop may leave of it, at each moment of its life:
+/// once so many writing calls have returned and the next may be under way. What is said of stops is said
+/// while the count of writing calls is below its end.
 pub trait ZonedDisk: Drop {
     /// The geometry, once it is told: at the latest from the first `geometry` that answers on.
     ghost told: { Self → Option Shape };
@@ -22,6 +27,10 @@ pub trait ZonedDisk: Drop {
     /// How many writing calls have returned. It stays at 2^64 - 1 once it is there.
     ghost calls: { Self → ℕ };
 
+    /// The images that a stop may leave once so many writing calls have returned and the next may be
+    /// under way.
+    ghost left: { Self → ℕ → Image → Type 0 };
+
     /// How often the disk has failed.
     ghost faults: { Self → ℕ };
 
@@ -31,6 +40,7 @@ pub trait ZonedDisk: Drop {
         ensures told { IfSome (told self.old) (λ g. told self.new ≡ Some g) }
         ensures zones { zones self.new ≡ zones self.old }
         ensures calls { calls self.new ≡ calls self.old }
+        ensures left { Keeps (left self.old) (left self.new) }
         ensures cause { HasCause (faults self.old) (faults self.new) result };
 
     /// The pointer of a sequential zone, in sectors; that of a full zone is the zone's size.
@@ -41,6 +51,7 @@ pub trait ZonedDisk: Drop {
         ensures told { told self.new ≡ told self.old }
         ensures zones { zones self.new ≡ zones self.old }
         ensures calls { calls self.new ≡ calls self.old }
+        ensures left { Keeps (left self.old) (left self.new) }
         ensures cause { HasCause (faults self.old) (faults self.new) result };
 
     /// Reads sectors, in a sequential zone from below its pointer.
@@ -56,6 +67,7 @@ pub trait ZonedDisk: Drop {
         ensures told { told self.new ≡ told self.old }
         ensures zones { zones self.new ≡ zones self.old }
         ensures calls { calls self.new ≡ calls self.old }
+        ensures left { Keeps (left self.old) (left self.new) }
         ensures cause { HasCause (faults self.old) (faults self.new) result };
 
     /// Writes sectors, in a sequential zone at its pointer, which moves behind them.
@@ -73,6 +85,9 @@ pub trait ZonedDisk: Drop {
             (λ i j. WriteStep i zone start bytes.now i j)) }
         ensures told { told self.new ≡ told self.old }
         ensures calls { calls self.new ≡ next_count (calls self.old) }
+        ensures left { calls self.new < 2 ^ 64 - 1 → Both (zones self.old) (zones self.new) (λ i j.
+            Grows (calls self.old) (left self.old) (left self.new)
+            (WriteStep i zone start bytes.now) (WriteLeaves i j zone start bytes.now)) }
         ensures cause { HasCause (faults self.old) (faults self.new) result };
 
     /// Takes the pointer of a sequential zone back to its start.
@@ -84,6 +99,9 @@ pub trait ZonedDisk: Drop {
         ensures err { OnErr result (Both (zones self.old) (zones self.new) (ResetStep zone)) }
         ensures told { told self.new ≡ told self.old }
         ensures calls { calls self.new ≡ next_count (calls self.old) }
+        ensures left { calls self.new < 2 ^ 64 - 1 → Both (zones self.old) (zones self.new) (λ i j.
+            Grows (calls self.old) (left self.old) (left self.new)
+            (ResetStep zone) (ResetLeaves j zone)) }
         ensures cause { HasCause (faults self.old) (faults self.new) result };
 
     /// Makes all that was written outlast a stop. `Failed` may have done it or not.
@@ -92,6 +110,10 @@ pub trait ZonedDisk: Drop {
         ensures zones { Both (zones self.old) (zones self.new) Same }
         ensures told { told self.new ≡ told self.old }
         ensures calls { calls self.new ≡ next_count (calls self.old) }
+        ensures left { calls self.new < 2 ^ 64 - 1 → IfSome (zones self.old) (λ i.
+            Grows (calls self.old) (left self.old) (left self.new) Same Same) }
+        ensures durable { OnOk result (calls self.new < 2 ^ 64 - 1 → IfSome (zones self.old) (λ i.
+            (c : Image) → left self.new (calls self.new) c → Same i c)) }
         ensures cause { HasCause (faults self.old) (faults self.new) result };
 
     /// Where the disk tells its zones, it tells their geometry.
@@ -99,4 +121,12 @@ pub trait ZonedDisk: Drop {
 
     /// What it reads as is an image.
     ghost shaped: { (d : Self) (i : Image) → zones d ≡ Some i → IsImage i };
+
+    /// What a stop may leave is an image of the told geometry, and is told only where the zones are.
+    ghost leaves: { (d : Self) (k : ℕ) (i : Image) → k ≤ calls d → left d k i
+        → IsImage i × (told d ≡ Some i.geometry) × IsSome (zones d) };
+
+    /// A stop may leave what the disk reads as.
+    ghost reads: { (d : Self) (i : Image) → calls d < 2 ^ 64 - 1 → zones d ≡ Some i
+        → left d (calls d) i };
 }

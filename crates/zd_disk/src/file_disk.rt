@@ -81,11 +81,17 @@ impl<F: Read + Write + Seek + OpenFile + Drop> ZonedDisk for FileDisk<F> {
 
     ghost calls = { λ d. d.calls };
 
+    ghost left = { λ d k i. ⊥ };
+
     ghost faults = { λ d. d.faults };
 
     ghost agrees = { λ d i e. absurd (none-some i e) };
 
     ghost shaped = { λ d i e. absurd (none-some i e) };
+
+    ghost leaves = { λ d k i within left. absurd left };
+
+    ghost reads = { λ d i small e. absurd (none-some i e) };
 
     fn geometry(&mut self) -> Result<Geometry, Failed>
         ensures ok { IsOk result ↔ IsSome self.old.told }

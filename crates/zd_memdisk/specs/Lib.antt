@@ -1,5 +1,10 @@
 pub mod Fails
+pub mod Calls
+pub mod Records
+pub mod Recorded
+pub mod RecordedStores
 pub mod Stored
 pub mod Stores
 pub mod Laws
 pub mod Disks
+pub mod DiskLaws

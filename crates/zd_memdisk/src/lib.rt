@@ -3,6 +3,8 @@
 
 mod fails;
 mod memory;
+mod record;
+mod recorded;
 mod store;
 
 pub use fails::{DeviceCall, Fail};

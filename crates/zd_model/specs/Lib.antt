@@ -6,6 +6,7 @@ pub mod Super
 pub mod Tables
 pub mod Faults
 pub mod Image
+pub mod Left
 pub mod Volume
 pub mod Plain
 pub mod Pieces

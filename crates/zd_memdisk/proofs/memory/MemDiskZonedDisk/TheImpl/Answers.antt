@@ -1,10 +1,8 @@
-use Rattle.std.proofs.Common.{◌≡◌, ℕ, ◌/◌, Some, inl, ap, arith}
+use Rattle.std.proofs.Common.{◌≡◌, ℕ, Some, inl, ap}
 use Rattle.std.proofs.lemmas.Result.{on_err_weaker}
 use Rattle.zd_base.specs.Geometry.{Shape}
 use Rattle.zd_model.specs.Image.{Image, SameZone, Same}
-use Rattle.zd_disk.specs.Steps.{count_of, ResetStep}
-use Rattle.zd_disk.proofs.StepLaws.{step_of_front}
-use Rattle.zd_memdisk.specs.Laws.{held_conventional}
+use Rattle.zd_disk.specs.Steps.{ResetStep}
 use Rattle.zd_memdisk.specs.Disks.{disk_image}
 use Rattle.zd_memdisk.proofs.memory.MemDiskZonedDisk.TheImpl.Goals as goal
 
@@ -25,29 +23,24 @@ not_reset z old new e = record {
 }
 
 pub write-tells : goal.write-tells
-write-tells x c =
-    let d = c.args.self.now in
-    let bytes = c.args.bytes.now in
-    let held = held_conventional d.store.geometry d.store.zones.items d.store.pointers.items c.args.zone in
-    let now = disk_image c.new.self.now in
-    let front = step_of_front c.args.zone c.args.start (count_of bytes / 2) bytes (disk_image d) now
-    (omega arith) (λ h. let e = held h in omega (arith, c.requires.inside.1)) in
-    record {
-      ok = c.ensures.ok;
-      err = on_err_weaker c.result front c.ensures.err;
-      told = ap (λ (g : Shape). Some g) c.ensures.told;
-      calls = c.ensures.calls;
-      cause = c.ensures.cause.cause;
-    }
+write-tells x c = record {
+  ok = c.ensures.did.ok;
+  err = c.ensures.did.err;
+  told = ap (λ (g : Shape). Some g) c.ensures.told;
+  calls = c.ensures.calls;
+  left = c.ensures.left;
+  cause = c.ensures.cause.faults.1;
+}
 
 pub reset-tells : goal.reset-tells
 reset-tells x c = record {
-  ok = c.ensures.ok;
+  ok = c.ensures.did.ok;
   err = on_err_weaker c.result (not_reset c.args.zone (disk_image c.args.self.now) (disk_image c.new.self.now))
-      c.ensures.err;
+      c.ensures.did.err;
   told = ap (λ (g : Shape). Some g) c.ensures.told;
   calls = c.ensures.calls;
-  cause = c.ensures.cause.cause;
+  left = c.ensures.left;
+  cause = c.ensures.cause.faults.1;
 }
 
 pub flush-tells : goal.flush-tells
@@ -55,5 +48,7 @@ flush-tells x c = record {
   zones = same (disk_image c.args.self.now) (disk_image c.new.self.now) c.ensures.zones;
   told = ap (λ (g : Shape). Some g) c.ensures.told;
   calls = c.ensures.calls;
-  cause = c.ensures.cause.cause;
+  left = c.ensures.left;
+  durable = c.ensures.durable;
+  cause = c.ensures.cause.faults.1;
 }
