@@ -29,7 +29,9 @@ pub enum OpenFault {
 /// A volume of which no chunk was ever written.
 #[derive(Clone, Copy, Debug, PartialEq, Eq)]
 pub struct Opened {
+    /// The geometry that the disk told.
     pub geometry: Geometry,
+    /// The head of the first set. Its layout fits the geometry.
     pub head: Super,
 }
 

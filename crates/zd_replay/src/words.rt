@@ -7,6 +7,7 @@ ghost use Rattle.zd_replay.specs.Words.{is_option, is_command, NamesFiles};
 use zd_base::Memory;
 use zd_ports::Paths;
 
+/// Whether a word is an option: it begins with a minus, and isn't a minus alone.
 fn is_option(word: &str) -> bool
     ensures { result ≡ is_option word.now }
 {

@@ -5,9 +5,9 @@ ghost use Rattle.std.specs.List.{AllByRecursion};
 ghost use Rattle.zd_model.specs.Report.{IsReported, entry_text, output, report};
 ghost use Rattle.zd_report.specs.Told.{TellsOnly};
 
-use crate::entries::add_lines;
 use crate::ending_line;
 use crate::endings::add_outcome;
+use crate::entries::add_lines;
 use std::alloc::{AllocError, Global};
 use zd_base::Memory;
 use zd_model::{Ending, Outcome};
