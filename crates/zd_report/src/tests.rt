@@ -1,4 +1,5 @@
-//! Worked examples, the report of a volume's reads, and each call with ample memory.
+//! Worked examples, a sample report that another implementation made, and each call with ample
+//! memory.
 
 ghost use Rattle.std.specs.Prelude.{◌≡◌, IfOk};
 ghost use Rattle.std.specs.List.{AllByRecursion};
