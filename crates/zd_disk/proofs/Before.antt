@@ -7,13 +7,8 @@ use Rattle.zd_base.specs.Geometry.{Shape, zone_sectors}
 use Rattle.zd_model.specs.Image.{Image, IsImage, SameZone}
 use Rattle.zd_model.specs.Left.{Event, replay, on_zone, IsPut, IsStop}
 use Rattle.zd_model.proofs.EventLaws.{replay-append, geometry-replay, IsOneZone, one_zone, one_zone_same, replay_zone, replay_there, on_zone-append, IsPut-append, SameZone-refl, SameZone-trans, SameZone-back}
+use Rattle.zd_disk.specs.Within.{IsOn}
 use Rattle.zd_disk.proofs.ZoneChange.{with_zone, IsZone, own_zone, made_held, made_sector, other_held, other_sector, other_zone, zone_other, made_image}
-
--- all of these are done to this zone
-pub record IsOn (z : ℕ) (fs : List Event) : Type 0 where
-  pub here : on_zone z fs ≡ fs
-  pub elsewhere : (y : ℕ) → y ≢ z → on_zone y fs ≡ []
-  pub put : (y i : ℕ) (v : List ℕ) → IsPut fs y i v → y ≡ z
 
 -- the zone after the first so many of its events
 abbrev pub IsFront : Image → List Event → ℕ → Image → Type 0

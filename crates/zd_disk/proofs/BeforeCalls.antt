@@ -12,7 +12,8 @@ use Rattle.zd_disk.specs.Steps.{ZoneWrote, WriteStep, WriteLeaves, ResetStep, Re
 use Rattle.zd_disk.proofs.StepLaws.{count-take}
 use Rattle.zd_disk.proofs.PutLaws.{front_held, front_sector, front_wrote, IsPut-puts, length-puts, take-puts, on_zone-puts, on_other-puts}
 use Rattle.zd_disk.proofs.ZoneChange.{with_zone, IsZone, made_held, made_sector, other_zone}
-use Rattle.zd_disk.proofs.Before.{IsOn, BeforeZone, before_zone, stop_with}
+use Rattle.zd_disk.specs.Within.{IsOn}
+use Rattle.zd_disk.proofs.Before.{BeforeZone, before_zone, stop_with}
 
 ZoneWrote-same : (z start : ℕ) (bytes : List ℕ) (old new new' : Image) → SameZone new new' z → ZoneWrote z start bytes old new → ZoneWrote z start bytes old new'
 ZoneWrote-same z start bytes old new new' same w = record {
@@ -20,6 +21,13 @@ ZoneWrote-same z start bytes old new new' same w = record {
   before = λ i l h. same.sectors i (omega (arith, w.held)) ∙ w.before i l h;
   put = λ j l. same.sectors (start + j) (omega (arith, w.held)) ∙ w.put j l;
   behind = λ i l h. same.sectors i (omega (arith, w.held)) ∙ w.behind i l h;
+}
+
+pub on_puts : (z start : ℕ) (bytes : List ℕ) (n : ℕ) → IsOn z (puts z start bytes 0 n)
+on_puts z start bytes n = record {
+  here = on_zone-puts z start bytes 0 n;
+  elsewhere = λ y ne. on_other-puts z start bytes 0 n y ne;
+  put = λ y i v h. sym (IsPut-puts z start bytes 0 n y i v h).2;
 }
 
 module _ (at c : Image) (es : List Event) (z start : ℕ) (bytes : List ℕ) (n : ℕ) (few : n ≤ count_of bytes) (whole : length bytes ≡ 512 * count_of bytes)
@@ -34,11 +42,7 @@ module _ (at c : Image) (es : List Event) (z start : ℕ) (bytes : List ℕ) (n 
   now = replay r fs
 
   on : IsOn z fs
-  on = record {
-    here = on_zone-puts z start bytes 0 n;
-    elsewhere = λ y ne. on_other-puts z start bytes 0 n y ne;
-    put = λ y i v h. sym (IsPut-puts z start bytes 0 n y i v h).2;
-  }
+  on = on_puts z start bytes n
 
   -- a value of the write
   IsNew : ℕ → Type 0
@@ -154,7 +158,7 @@ leaves_step reads now z start bytes old new w = record {
 cleared : (i : Image) (z : ℕ) → (replay i (Clear z ∷ [])).held z ≡ 0
 cleared i z = rw (same_test z z refl) refl
 
-on_clear : (z : ℕ) → IsOn z (Clear z ∷ [])
+pub on_clear : (z : ℕ) → IsOn z (Clear z ∷ [])
 on_clear z = record {
   here = rw (same_test z z refl) refl;
   elsewhere = λ y ne. rw (other_test z y (λ e. ne (sym e))) refl;

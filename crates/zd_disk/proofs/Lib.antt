@@ -1,3 +1,4 @@
+pub mod AfterStep
 pub mod Before
 pub mod BeforeCalls
 pub mod GrowthLaws
@@ -5,5 +6,6 @@ pub mod Moments
 pub mod PutLaws
 pub mod SameSteps
 pub mod StepLaws
+pub mod WithinLaws
 pub mod ToldLaws
 pub mod ZoneChange

@@ -73,7 +73,7 @@ reset_leaves_same a b z old new same r = record {
   zone = elim r.zone [ inl kept ↦ inl kept | inr empty ↦ inr (empty.0, same.held ∙ empty.1) ];
 }
 
-zone_wrote_same : (z start : ℕ) (bytes : List ℕ) (a a' b b' : Image) → SameZone a b z → ZoneWrote z start bytes a a' → ZoneWrote z start bytes b b' → start ≤ a.held z → SameZone a' b' z
+pub zone_wrote_same : (z start : ℕ) (bytes : List ℕ) (a a' b b' : Image) → SameZone a b z → ZoneWrote z start bytes a a' → ZoneWrote z start bytes b b' → start ≤ a.held z → SameZone a' b' z
 zone_wrote_same z start bytes a a' b b' same wa wb at = record {
   held = wb.held ∙ ap (λ (h : ℕ). max h (start + count_of bytes)) same.held ∙ sym wa.held;
   sectors = λ i l. elim (cases_lt i start) [

@@ -7,7 +7,7 @@ use Rattle.zd_model.specs.Left.{Event, replay, Call, Since, since_flush, IsLeft,
 use Rattle.zd_model.specs.Left.Event.{Clear}
 use Rattle.zd_model.specs.Left.Call.{Does, Flushes}
 use Rattle.zd_model.proofs.EventLaws.{same_test, other_test, replay-append, SameZone-refl}
-use Rattle.zd_model.proofs.LeftLaws.{calls-push, IsImage-same}
+use Rattle.zd_model.proofs.LeftLaws.{now-push, now-flush, calls-push, IsImage-same}
 use Rattle.zd_disk.specs.Growth.{Grows, puts}
 use Rattle.zd_disk.specs.Steps.{Wrote, WriteStep, WriteLeaves, WasReset, ResetStep, ResetLeaves, count_of}
 use Rattle.zd_disk.proofs.PutLaws.{wrote_front}
@@ -19,19 +19,6 @@ use Rattle.zd_memdisk.specs.Recorded.{IsRecorded}
 -- the counts of calls before and after one more
 abbrev pub next : ℕ → ℕ
 next count = min (count + 1) (2 ^ 64 - 1)
-
-pub now-push : (first : Image) (calls : List Call) (asked done : List Event)
-    → now_by first (calls ++ Does asked done ∷ []) ≡ replay (now_by first calls) done
-now-push first calls asked done =
-    let s = since_flush first calls in
-    ap (λ (t : Since). replay t.flushed t.events) (calls-push (record { flushed = first; events = [] }) calls (Does asked done))
-    ∙ replay-append s.flushed s.events done
-
-pub now-flush : (first : Image) (calls : List Call) → now_by first (calls ++ Flushes true ∷ []) ≡ now_by first calls
-now-flush first calls = ap (λ (t : Since). replay t.flushed t.events) (calls-push (record { flushed = first; events = [] }) calls (Flushes true))
-
-pub now-no_flush : (first : Image) (calls : List Call) → now_by first (calls ++ Flushes false ∷ []) ≡ now_by first calls
-now-no_flush first calls = ap (λ (t : Since). replay t.flushed t.events) (calls-push (record { flushed = first; events = [] }) calls (Flushes false))
 
 -- what is said of a call
 pub record Called (first now : Image) (old new : List Call) (count : ℕ) (begun ended : Image → Image → Type 0) : Type 0 where
@@ -124,12 +111,12 @@ module _ (first was : Image) (old new : List Call) (count : ℕ) (recorded : IsR
 
   pub did_flush : new ≡ old ++ Flushes true ∷ [] → Called first was old new count Same Same
   did_flush is =
-      called was (Flushes true) Same Same is (subst (λ (i : Image). Same i was) (sym (now-flush first old)) recorded.tied)
+      called was (Flushes true) Same Same is (subst (λ (i : Image). Same i was) (sym (now-flush first old true)) recorded.tied)
       (grows_flush first old was was reads recorded.tied true)
 
   pub did_no_flush : new ≡ old ++ Flushes false ∷ [] → Called first was old new count Same Same
   did_no_flush is =
-      called was (Flushes false) Same Same is (subst (λ (i : Image). Same i was) (sym (now-no_flush first old)) recorded.tied)
+      called was (Flushes false) Same Same is (subst (λ (i : Image). Same i was) (sym (now-flush first old false)) recorded.tied)
       (grows_flush first old was was reads recorded.tied false)
 
   pub lasts : new ≡ old ++ Flushes true ∷ [] → next count < 2 ^ 64 - 1 → (c : Image) → IsLeft first new (next count) c → Same was c

@@ -1,11 +1,11 @@
 -- What a stop may leave after one more call, and now.
-use Rattle.std.proofs.Common.{◌≡◌, ◌⊎◌, ℕ, zero, suc, ◌+◌, ◌<◌, ◌≤◌, List, [], ◌∷◌, ◌++◌, length, take, true, false, inl, inr, refl, ap, sym, ◌∙◌, subst, arith, length-append}
+use Rattle.std.proofs.Common.{◌≡◌, ◌⊎◌, ℕ, zero, suc, ◌+◌, ◌<◌, ◌≤◌, List, [], ◌∷◌, ◌++◌, length, take, Bool, true, false, inl, inr, refl, ap, sym, ◌∙◌, subst, arith, length-append}
 use Rattle.std.proofs.lemmas.List.{append-nil, take_all}
 use Rattle.zd_base.specs.Geometry.{Shape, zone_sectors}
 use Rattle.zd_model.specs.Image.{Image, IsImage, SameZone, Same}
 use Rattle.zd_model.specs.Left.{Event, replay, on_zone, IsPut, IsStop, Call, asked_of, Since, after_call, after_calls, since_flush, under_way, IsLeft, now_by}
 use Rattle.zd_model.specs.Left.Call.{Does, Flushes}
-use Rattle.zd_model.proofs.EventLaws.{geometry-replay, replay_values, replay_zone, one_zone, one_zone_same, SameZone-trans}
+use Rattle.zd_model.proofs.EventLaws.{geometry-replay, replay-append, replay_values, replay_zone, one_zone, one_zone_same, SameZone-trans}
 
 pub calls-push : (s : Since) (cs : List Call) (c : Call) → after_calls s (cs ++ c ∷ []) ≡ after_call (after_calls s cs) c
 calls-push s [] c = refl
@@ -41,6 +41,20 @@ geometry-now first calls =
 pub geometry-left : (first : Image) (calls : List Call) (k : ℕ) (i : Image) → IsLeft first calls k i → i.geometry ≡ first.geometry
 geometry-left first calls k i left =
     left.stop.geometry ∙ flushed_geometry (record { flushed = first; events = [] }) (take k calls)
+
+-- what the disk reads as after one more call
+pub now-push : (first : Image) (calls : List Call) (asked done : List Event)
+    → now_by first (calls ++ Does asked done ∷ []) ≡ replay (now_by first calls) done
+now-push first calls asked done =
+    let s = since_flush first calls in
+    let more = calls-push (record { flushed = first; events = [] }) calls (Does asked done) in
+    ap (λ (t : Since). replay t.flushed t.events) more ∙ replay-append s.flushed s.events done
+
+pub now-flush : (first : Image) (calls : List Call) (ok : Bool) → now_by first (calls ++ Flushes ok ∷ []) ≡ now_by first calls
+now-flush first calls true =
+    ap (λ (t : Since). replay t.flushed t.events) (calls-push (record { flushed = first; events = [] }) calls (Flushes true))
+now-flush first calls false =
+    ap (λ (t : Since). replay t.flushed t.events) (calls-push (record { flushed = first; events = [] }) calls (Flushes false))
 
 -- by what was done at the moment
 module _ (first : Image) (calls : List Call) (k : ℕ) (s : Since) (fs : List Event) (c : Image)
