@@ -1,5 +1,5 @@
 -- What was read of a source so far, its end, and too much.
-use Rattle.std.proofs.Common.{◌≡◌, ℕ, ◌+◌, ◌≤◌, List, [], ◌∷◌, ◌++◌, length, Option, Some, refl, sym, ap, ◌∙◌, arith}
+use Rattle.std.proofs.Common.{◌≡◌, ℕ, ◌≤◌, List, [], ◌++◌, length, Option, Some, refl, sym, ap, ◌∙◌, arith}
 use Rattle.std.proofs.lemmas.List.{append-nil, length-append, nil_from_length}
 use Rattle.zd_model.specs.Script.Refuses.{size}
 use Rattle.zd_model.specs.declared.texts.BadLine.TheVariants.{TooLong}
