@@ -18,9 +18,11 @@ module _ (at d c : Image) (es fs : List Event) (z : ℕ) (stop : IsStop at es d)
       let own = on_zone y es in
       let both = on_zone-append y es fs in
       let less : take p.0 (on_zone y (es ++ fs)) ≡ take p.0 own =
-      ap (λ (l : List Event). take p.0 l) both ∙ take-append-le p.0 own (on_zone y fs) p.1 in
-      (p.0, omega (arith, p.1, ap (λ (l : List Event). length l) both, length-append own (on_zone y fs)),
-      subst (λ (l : List Event). SameZone (replay at l) d y) (sym less) p.2)
+      ap (λ (l : List Event). take p.0 l) both ∙ take-append-le p.0 own (on_zone y fs) p.1 in (
+        p.0,
+        omega (arith, p.1, ap (λ (l : List Event). length l) both, length-append own (on_zone y fs)),
+        subst (λ (l : List Event). SameZone (replay at l) d y) (sym less) p.2,
+      )
 
   all_more : (n : ℕ) → n ≤ length fs → SameZone (replay (replay at es) (take n fs)) c z
       → (m : ℕ) × (m ≤ length (on_zone z (es ++ fs))) × SameZone (replay at (take m (on_zone z (es ++ fs)))) c z
@@ -33,9 +35,11 @@ module _ (at d c : Image) (es fs : List Event) (z : ℕ) (stop : IsStop at es d)
       let one = replay_there (replay at own) (replay at es) z (take n fs) (replay_zone at at z es (one_zone at z)) in
       let same_one = one_zone_same (replay (replay at own) (take n fs)) (replay (replay at es) (take n fs)) z one in
       let there = SameZone-trans (replay (replay at own) (take n fs)) (replay (replay at es) (take n fs)) c z same_one same in
-      let joined = subst (λ (i : Image). SameZone i c z) (sym (replay-append at own (take n fs))) there in
-      (m, omega (arith, ap (λ (l : List Event). length l) both, length-append own fs),
-      subst (λ (l : List Event). SameZone (replay at l) c z) (sym taken) joined)
+      let joined = subst (λ (i : Image). SameZone i c z) (sym (replay-append at own (take n fs))) there in (
+        m,
+        omega (arith, ap (λ (l : List Event). length l) both, length-append own fs),
+        subst (λ (l : List Event). SameZone (replay at l) c z) (sym taken) joined,
+      )
 
   pub after_step : (z < at.geometry.conv → (i : ℕ) → i < zone_sectors at.geometry
       → (c.sector z i ≡ d.sector z i) ⊎ ((c.sector z i ≡ at.sector z i) ⊎ IsPut (es ++ fs) z i (c.sector z i)))

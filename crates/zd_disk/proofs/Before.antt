@@ -51,8 +51,11 @@ module _ (at c : Image) (es fs : List Event) (z : ℕ) (s : IsStop at (es ++ fs)
             let split = subst (λ (i : Image). SameZone i c z) (replay-append at own (take q fs)) there in
             let one = replay_there (replay at own) (replay at es) z (take q fs) (replay_zone at at z es (one_zone at z)) in
             let same_one = one_zone_same (replay (replay at own) (take q fs)) (replay (replay at es) (take q fs)) z one in
-            inr (q, omega (arith, p.1, length-append own fs),
-            SameZone-back (replay (replay at own) (take q fs)) (replay (replay at es) (take q fs)) c z same_one split)
+            inr (
+              q,
+              omega (arith, p.1, length-append own fs),
+              SameZone-back (replay (replay at own) (take q fs)) (replay (replay at es) (take q fs)) c z same_one split,
+            )
       ]
 
   -- the image with another zone z

@@ -72,12 +72,14 @@ module _ (at c : Image) (es : List Event) (z start : ℕ) (bytes : List ℕ) (n 
                 let m = IsPut-puts z start bytes 0 n z i (c.sector z i) new in
                 let at_m : (0 + m.0) ≡ m.0 = omega arith in
                 let is : i ≡ start + m.0 = omega (arith, m.3) in
-                let shown = ap (λ (k : ℕ). now.sector z k) is ∙ front_sector r z start bytes n m.0 m.1 in
-                (r.sector z i, λ _. record {
-                  sector = reads.sectors z i (omega (arith, r_held, ap zone_sectors rg));
-                  could = replay_values at es z i;
-                  step = inr (m.0, omega (arith, m.1), is, m.4 ∙ ap (piece bytes) at_m, shown);
-                })
+                let shown = ap (λ (k : ℕ). now.sector z k) is ∙ front_sector r z start bytes n m.0 m.1 in (
+                  r.sector z i,
+                  λ _. record {
+                    sector = reads.sectors z i (omega (arith, r_held, ap zone_sectors rg));
+                    could = replay_values at es z i;
+                    step = inr (m.0, omega (arith, m.1), is, m.4 ∙ ap (piece bytes) at_m, shown);
+                  },
+                )
           ]
         ]
   ]
@@ -96,12 +98,12 @@ module _ (at c : Image) (es : List Event) (z start : ℕ) (bytes : List ℕ) (n 
       let d_held = made_held c z (c.held z) values in (
         d,
         stop_with at c es fs z s on (c.held z) values
-        (record {
-          sectors = λ i h. ((choose conv i).1 (omega (arith, held, ap zone_sectors g))).sector;
-          conventional = λ h. held;
-          sequential = λ h. absurd (omega arith);
-        })
-        (λ h i l. ((choose conv i).1 l).could) (λ h. absurd (omega arith)),
+            (record {
+              sectors = λ i h. ((choose conv i).1 (omega (arith, held, ap zone_sectors g))).sector;
+              conventional = λ h. held;
+              sequential = λ h. absurd (omega arith);
+            })
+            (λ h i l. ((choose conv i).1 l).could) (λ h. absurd (omega arith)),
         record {
           geometry = refl;
           others = λ y ne. other_zone c z (c.held z) values y ne;

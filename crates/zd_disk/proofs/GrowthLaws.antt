@@ -121,20 +121,20 @@ module _ (first : Image) (calls : List Call) (reads now : Image) (image : IsImag
       let done = puts z start bytes 0 put in
       grows_by first calls (Does asked done) (WriteStep reads z start bytes) (WriteLeaves reads now z start bytes)
       (λ i s.
-          let b = before_write t.flushed i t.events z start bytes (count_of bytes) (omega arith) whole s image pointer in
-          let step = leaves_step r (replay r asked) z start bytes b.0 i b.2 in
-          (b.0, b.1, step_same r reads z start bytes b.0 i (tied.zones z) step))
+      let b = before_write t.flushed i t.events z start bytes (count_of bytes) (omega arith) whole s image pointer in
+      let step = leaves_step r (replay r asked) z start bytes b.0 i b.2 in
+      (b.0, b.1, step_same r reads z start bytes b.0 i (tied.zones z) step))
       (λ i s.
-          let b = before_write t.flushed i t.events z start bytes put few whole s image pointer in
-          let rg : r.geometry ≡ t.flushed.geometry = geometry-replay t.flushed t.events in
-          let ng : (replay r done).geometry ≡ r.geometry = geometry-replay r done in
-          let conv = ap (λ (g : Shape). g.conv) (b.1.geometry ∙ sym rg ∙ sym ng ∙ sym tied'.geometry) in
-          let size = ap zone_sectors (b.1.geometry ∙ sym rg ∙ sym ng ∙ sym tied'.geometry) in
-          let holds : z < b.0.geometry.conv → b.0.held z ≤ (replay r done).held z = λ h.
-          let old = b.1.image.conventional z h in
-          let new = image'.conventional z (omega arith) in
-          omega (arith, (tied'.zones z).held) in
-          (b.0, b.1, leaves_same r (replay r done) reads now z start bytes b.0 i (tied.zones z) (tied'.zones z) holds b.2))
+      let b = before_write t.flushed i t.events z start bytes put few whole s image pointer in
+      let rg : r.geometry ≡ t.flushed.geometry = geometry-replay t.flushed t.events in
+      let ng : (replay r done).geometry ≡ r.geometry = geometry-replay r done in
+      let conv = ap (λ (g : Shape). g.conv) (b.1.geometry ∙ sym rg ∙ sym ng ∙ sym tied'.geometry) in
+      let size = ap zone_sectors (b.1.geometry ∙ sym rg ∙ sym ng ∙ sym tied'.geometry) in
+      let holds : z < b.0.geometry.conv → b.0.held z ≤ (replay r done).held z = λ h.
+      let old = b.1.image.conventional z h in
+      let new = image'.conventional z (omega arith) in
+      omega (arith, (tied'.zones z).held) in
+      (b.0, b.1, leaves_same r (replay r done) reads now z start bytes b.0 i (tied.zones z) (tied'.zones z) holds b.2))
 
   pub grows_reset : (z : ℕ) → r.geometry.conv ≤ z → Same (replay r (Clear z ∷ [])) now
       → Grows (length calls) (IsLeft first calls) (IsLeft first (calls ++ Does (Clear z ∷ []) (Clear z ∷ []) ∷ [])) (ResetStep z) (ResetLeaves now z)

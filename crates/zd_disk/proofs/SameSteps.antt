@@ -57,8 +57,12 @@ leaves_same a a' b b' z start bytes old new same same' holds w = record {
   ];
   sequential = λ h. elim (w.sequential h) [
     | inl kept ↦ inl kept
-    | inr front ↦ inr (front.0, front.1, omega (arith, front.2, same'.held),
-      ZoneWrote-from z start (take (512 * front.0) bytes) a b new same front.3)
+    | inr front ↦ inr (
+      front.0,
+      front.1,
+      omega (arith, front.2, same'.held),
+      ZoneWrote-from z start (take (512 * front.0) bytes) a b new same front.3,
+    )
   ];
 }
 

@@ -127,20 +127,23 @@ module _ {D : Type 0} (left : D → ℕ → Image → Type 0) (old new : D) (fir
     begun d c stop c_image w =
         after_step t.flushed d c t.events asked z stop c_image w.geometry w.others (on_puts z start bytes (count_of bytes))
         (λ conv i l.
-            let below : z < d.geometry.conv = omega (arith, ap (λ (g : Shape). g.conv) stop.geometry) in
-            let held = stop.image.conventional z below in
-            elim ((w.conventional below).sectors i (omega (arith, ap zone_sectors stop.geometry))) [
-              | inl same ↦ inl same
-              | inr put ↦
-                  let one = simp zero-add at (puts-IsPut z start bytes 0 (count_of bytes) put.0 put.1) in
-                  let here = subst (λ (k : ℕ). IsPut asked z k (piece bytes put.0)) (sym put.2) one in
-                  let value = subst (λ (v : List ℕ). IsPut asked z i v) (sym put.3) here in
-                  inr (inr (IsPut-behind t.events asked z i (c.sector z i) value))
-            ])
+        let below : z < d.geometry.conv = omega (arith, ap (λ (g : Shape). g.conv) stop.geometry) in
+        let held = stop.image.conventional z below in
+        elim ((w.conventional below).sectors i (omega (arith, ap zone_sectors stop.geometry))) [
+          | inl same ↦ inl same
+          | inr put ↦
+              let one = simp zero-add at (puts-IsPut z start bytes 0 (count_of bytes) put.0 put.1) in
+              let here = subst (λ (k : ℕ). IsPut asked z k (piece bytes put.0)) (sym put.2) one in
+              let value = subst (λ (v : List ℕ). IsPut asked z i v) (sym put.3) here in
+              inr (inr (IsPut-behind t.events asked z i (c.sector z i) value))
+        ])
         (λ seq. elim (w.sequential (omega (arith, ap (λ (g : Shape). g.conv) stop.geometry))) [
           | inl same ↦ inl same
-          | inr part ↦ inr (part.0, omega (arith, part.1, length-puts z start bytes 0 (count_of bytes)),
-            front z start bytes part.0 (count_of bytes) c part.1 (omega arith) whole at part.2)
+          | inr part ↦ inr (
+            part.0,
+            omega (arith, part.1, length-puts z start bytes 0 (count_of bytes)),
+            front z start bytes part.0 (count_of bytes) c part.1 (omega arith) whole at part.2,
+          )
         ])
 
     ended : Same (now_by first (calls ++ Does asked done ∷ [])) now → (d c : Image) → IsStop t.flushed t.events d → IsImage c
@@ -150,19 +153,19 @@ module _ {D : Type 0} (left : D → ℕ → Image → Type 0) (old new : D) (fir
         let here : replay t.flushed (t.events ++ done) ≡ replay r done = replay-append t.flushed t.events done in
         after_step t.flushed d c t.events done z stop c_image w.geometry w.others by.on
         (λ conv i l.
-            let below : z < d.geometry.conv = omega (arith, ap (λ (g : Shape). g.conv) stop.geometry) in
-            let held = stop.image.conventional z below in
-            elim (w.conventional below i (omega (arith, ap zone_sectors stop.geometry))) [
-              | inl same ↦ inl same
-              | inr put ↦
-                  let geometry = shown.geometry ∙ geometry-replay r done ∙ geometry-replay t.flushed t.events in
-                  let full = image.conventional z (omega (arith, ap (λ (g : Shape). g.conv) geometry)) in
-                  let in_it : i < (replay r done).held z = omega (arith, (shown.zones z).held, ap zone_sectors geometry) in
-                  let made : c.sector z i ≡ (replay t.flushed (t.events ++ done)).sector z i =
-                  put.3 ∙ sym put.4 ∙ (shown.zones z).sectors i in_it ∙ sym (ap (λ (j : Image). j.sector z i) here) in
-                  let values = replay_values t.flushed (t.events ++ done) z i in
-                  inr (subst (λ (v : List ℕ). (v ≡ t.flushed.sector z i) ⊎ IsPut (t.events ++ done) z i v) (sym made) values)
-            ])
+        let below : z < d.geometry.conv = omega (arith, ap (λ (g : Shape). g.conv) stop.geometry) in
+        let held = stop.image.conventional z below in
+        elim (w.conventional below i (omega (arith, ap zone_sectors stop.geometry))) [
+          | inl same ↦ inl same
+          | inr put ↦
+              let geometry = shown.geometry ∙ geometry-replay r done ∙ geometry-replay t.flushed t.events in
+              let full = image.conventional z (omega (arith, ap (λ (g : Shape). g.conv) geometry)) in
+              let in_it : i < (replay r done).held z = omega (arith, (shown.zones z).held, ap zone_sectors geometry) in
+              let made : c.sector z i ≡ (replay t.flushed (t.events ++ done)).sector z i =
+              put.3 ∙ sym put.4 ∙ (shown.zones z).sectors i in_it ∙ sym (ap (λ (j : Image). j.sector z i) here) in
+              let values = replay_values t.flushed (t.events ++ done) z i in
+              inr (subst (λ (v : List ℕ). (v ≡ t.flushed.sector z i) ⊎ IsPut (t.events ++ done) z i v) (sym made) values)
+        ])
         (λ seq. elim (w.sequential (omega (arith, ap (λ (g : Shape). g.conv) stop.geometry))) [
           | inl same ↦ inl same
           | inr part ↦
@@ -173,8 +176,11 @@ module _ {D : Type 0} (left : D → ℕ → Image → Type 0) (old new : D) (fir
               let reads_held = pointer above in
               let few : part.0 ≤ m.0 = omega (arith, part.2, (shown.zones z).held, grown, (was.tied.zones z).held) in
               let count = ap (λ (es : List Event). length es) m.2 ∙ length-puts z start bytes 0 m.0 in
-              inr (part.0, omega (arith, count),
-              subst (λ (es : List Event). SameZone (replay r (take part.0 es)) c z) (sym m.2) (front z start bytes part.0 m.0 c few m.1 whole at part.3))
+              inr (
+                part.0,
+                omega (arith, count),
+                subst (λ (es : List Event). SameZone (replay r (take part.0 es)) c z) (sym m.2) (front z start bytes part.0 m.0 c few m.1 whole at part.3),
+              )
         ])
 
   flush_begun : (d c : Image) → IsStop t.flushed t.events d → IsImage c → Same d c → IsStop t.flushed (t.events ++ []) c
@@ -210,9 +216,9 @@ a_reset left old new first reads now calls z done was image seq on tied tells gr
     let cleared : (replay r (Clear z ∷ [])).held z ≡ 0 = rw (same_test z z refl) refl in
     stays first calls (Does (Clear z ∷ []) done) reads now (left old) (left new) (ResetStep z) (ResetLeaves now z) was tells grows image tied
     (λ d c stop c_image step. reset left old new first reads now calls was image tells z (Clear z ∷ []) seq (on_clear z) d c stop c_image step.geometry step.others
-        (elim step.zone [ inl same ↦ inl same | inr empty ↦ inr (empty, cleared) ]))
+    (elim step.zone [ inl same ↦ inl same | inr empty ↦ inr (empty, cleared) ]))
     (λ d c stop c_image step _. reset left old new first reads now calls was image tells z done seq on d c stop c_image step.geometry step.others
-        (elim step.zone [ inl same ↦ inl same | inr empty ↦ inr (empty.0, sym (shown.zones z).held ∙ empty.1) ]))
+    (elim step.zone [ inl same ↦ inl same | inr empty ↦ inr (empty.0, sym (shown.zones z).held ∙ empty.1) ]))
 
 pub a_failed_flush : {D : Type 0} (left : D → ℕ → Image → Type 0) → AFailedFlushStaysWithin left
 a_failed_flush left old new first reads now calls was image same tells grows =
