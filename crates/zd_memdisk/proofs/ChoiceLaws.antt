@@ -1,14 +1,13 @@
 -- Choices and the images that a stop may leave.
-use Rattle.std.proofs.Common.{◌≡◌, ◌≢◌, ◌⊎◌, ℕ, zero, suc, ◌+◌, ◌-◌, ◌<◌, ◌≤◌, List, [], ◌∷◌, ◌++◌, length, take, Bool, true, false, cond, get_or, inl, inr, refl, ap, sym, ◌∙◌, subst, arith, length-append, lit<}
-use Rattle.std.specs.Prelude.{◌&&◌}
+use Rattle.std.proofs.Common.{◌≡◌, ◌⊎◌, ℕ, zero, suc, ◌<◌, ◌≤◌, List, [], ◌∷◌, ◌++◌, length, take, Bool, true, false, cond, get_or, inl, inr, refl, ap, sym, ◌∙◌, subst, arith, length-append}
 use Rattle.std.specs.List.{AllByRecursion}
 use Rattle.std.proofs.lemmas.Bool.{cases_eq, cases_lt}
-use Rattle.zd_base.specs.Geometry.{Shape, zone_count, zone_sectors}
-use Rattle.zd_model.specs.Image.{Image, IsImage, SameZone, Same}
-use Rattle.zd_model.specs.Left.{Event, replay, on_zone, IsPut, IsStop, Call, IsLeft}
+use Rattle.zd_base.specs.Geometry.{Shape, zone_sectors}
+use Rattle.zd_model.specs.Image.{Image}
+use Rattle.zd_model.specs.Left.{Event, replay, on_zone, IsPut, IsStop}
 use Rattle.zd_model.specs.Left.Event.{Put, Clear}
 use Rattle.zd_model.proofs.EventLaws.{same_test, other_test, on_zone-append, SameZone-back}
-use Rattle.zd_memdisk.specs.Choices.{SectorItem, ZoneItem, values_put, values_of, value_chosen, front_chosen, Moment, moment_at, value_number, front_number, IsSectorThere, IsZoneThere, AreThere, IsChosen, WhatIsChosenMayBeLeft, WhatMayBeLeftCanBeChosen, ChoicesGiveOneImage}
+use Rattle.zd_memdisk.specs.Choices.{SectorItem, ZoneItem, values_put, values_of, value_chosen, front_chosen, Moment, moment_at, value_number, front_number, IsSectorThere, IsZoneThere, AreThere, IsChosen, WhatIsChosenMayBeLeft, ChoicesGiveOneImage}
 
 values_put-append : (z i : ℕ) (es fs : List Event) → values_put z i (es ++ fs) ≡ values_put z i es ++ values_put z i fs
 values_put-append z i [] fs = refl

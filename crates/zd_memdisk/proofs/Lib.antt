@@ -8,3 +8,4 @@ pub mod StoreCalls
 pub mod DiskCalls
 pub mod ChoiceLaws
 pub mod EachChosen
+pub mod InsideLaws

@@ -9,3 +9,4 @@ pub mod Laws
 pub mod Disks
 pub mod DiskLaws
 pub mod Choices
+pub mod DiskChoices
