@@ -6,3 +6,6 @@ pub mod Noting
 pub mod RecordedCalls
 pub mod StoreCalls
 pub mod DiskCalls
+pub mod ChoiceLaws
+pub mod EachChosen
+pub mod InsideLaws

@@ -8,3 +8,5 @@ pub mod Stores
 pub mod Laws
 pub mod Disks
 pub mod DiskLaws
+pub mod Choices
+pub mod DiskChoices

@@ -1,6 +1,7 @@
 //! A zoned disk in memory, whose calls fail where a test wants it.
 #![tactic(auto)]
 
+pub mod choices;
 mod fails;
 mod memory;
 mod record;

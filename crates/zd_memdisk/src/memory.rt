@@ -14,6 +14,7 @@ ghost use Rattle.zd_memdisk.specs.Disks.{disk_geometry, disk_image, disk_calls, 
 ghost use Rattle.zd_memdisk.specs.Disks.{spare_calls, spare_sectors, HasRoom, UsesRoom, ObeysList, ObeysRoom, CountsFault, IsSameDisk};
 ghost use Rattle.zd_memdisk.specs.Disks.{front_half, DidWrite, DidReset, Notes, IsNew};
 ghost use Rattle.zd_memdisk.specs.Calls.{write_call, reset_call};
+ghost use Rattle.zd_memdisk.specs.DiskChoices.{ChoicesAreLeft, EachHasChoices};
 ghost use Rattle.zd_memdisk.specs.DiskLaws.{disk_agrees, disk_shaped, disk_leaves, disk_reads};
 
 use crate::fails::{DeviceCall, Fail, count_call};
@@ -98,6 +99,15 @@ impl MemDisk {
         ensures { result ≡ disk_calls self.now }
     {
         self.recorded.calls()
+    }
+
+    /// What holds of the images that a stop may leave, by choices: what is chosen may be left, and each
+    /// image that may be left can be chosen. It does nothing.
+    pub fn choice_laws(&self)
+        ensures left { ChoicesAreLeft self.now }
+        ensures each { EachHasChoices self.now }
+    {
+        let _calls = self.calls();
     }
 
     // Counts a call at the list, and answers whether that says that it fails.
