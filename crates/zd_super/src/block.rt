@@ -10,9 +10,9 @@ use byteorder::{ByteOrder, LittleEndian};
 use uuid::Uuid;
 use zd_model::{Layout, NotSuper, Super};
 
-const MAGIC: u32 = 0x445A_4244;
+pub const MAGIC: u32 = 0x445A_4244;
 
-const VERSION: u32 = 2;
+pub const VERSION: u32 = 2;
 
 /// The head for which a block of 4096 bytes stands.
 ///

@@ -3,11 +3,13 @@
 
 mod block;
 mod crc;
+mod encoding;
 mod offset;
 mod table;
 
 pub use block::decode;
 pub use crc::crc32_le;
+pub use encoding::encode;
 pub use zd_model::{Layout, NotSuper, Super};
 
 #[cfg(test)]
