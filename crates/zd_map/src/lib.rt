@@ -5,11 +5,14 @@
 //! 4096 bytes is a map block.
 #![tactic(auto)]
 
-ghost use Rattle.std.specs.Prelude.{◌≡◌, ◌+◌, ◌≤◌, ◌<◌, length};
-ghost use Rattle.zd_model.specs.Bytes.{u32_at};
+ghost use Rattle.std.specs.Prelude.{◌≡◌, ◌≢◌, ◌⊎◌, ◌+◌, ◌≤◌, ◌<◌, ℕ, length};
+ghost use Rattle.std.specs.Int.{w32, to_le_bytes};
+ghost use Rattle.zd_map.specs.Numbers.{IsZone, NamesZones, number_of, unmapped};
+ghost use Rattle.zd_model.specs.Bytes.{overwrite, u32_at};
 ghost use Rattle.zd_model.specs.Tables.{entry_at, named};
 
 use byteorder::{ByteOrder, LittleEndian};
+use zd_base::BLOCK;
 pub use zd_base::ZoneNo;
 pub use zd_model::MapEntry;
 
@@ -29,6 +32,57 @@ pub fn get(block: &[u8], i: usize) -> MapEntry
         zone: zone_at(block, ENTRY * i),
         buffer: zone_at(block, ENTRY * i + 4),
     }
+}
+
+/// Makes entry `i` of a map block this one. Zone numbers are below 0xFFFFFFFF; all other entries stay.
+pub fn set(block: &mut [u8], i: usize, entry: MapEntry)
+    requires size { length block.old ≡ 4096 }
+    requires entry { i < 512 }
+    requires zones { NamesZones entry }
+    ensures entry { entry_at block.new i ≡ entry }
+    ensures others { (j : ℕ) → j ≢ i → entry_at block.new j ≡ entry_at block.old j }
+    ensures size { length block.new ≡ 4096 }
+{
+    put_zone(block, ENTRY * i, entry.zone);
+    put_zone(block, ENTRY * i + 4, entry.buffer);
+}
+
+/// Makes `out`, of 4096 bytes, a map block whose chunks have no zones.
+pub fn blank(out: &mut [u8])
+    requires size { length out.old ≡ 4096 }
+    ensures entries { (i : ℕ) → i < 512 → entry_at out.new i ≡ unmapped }
+    ensures size { length out.new ≡ 4096 }
+{
+    out.copy_from_slice(&[0xFF; BLOCK]);
+}
+
+/// Writes the number of a zone from byte `at` on.
+fn put_zone(block: &mut [u8], at: usize, zone: Option<ZoneNo>)
+    requires inside { at + 4 ≤ length block.old }
+    requires zone { IsZone zone }
+    ensures zone { named (u32_at block.new at) ≡ zone }
+    ensures others { (k : ℕ) → (k + 4 ≤ at) ⊎ (at + 4 ≤ k) → u32_at block.new k ≡ u32_at block.old k }
+    ensures length { length block.new ≡ length block.old }
+{
+    put_number(block, at, number_of(zone));
+}
+
+/// The number that stands for a zone, or for none.
+fn number_of(zone: Option<ZoneNo>) -> u32
+    ensures { result ≡ number_of zone }
+{
+    match zone {
+        Some(zone) => zone.0,
+        None => NONE,
+    }
+}
+
+/// Writes a number from byte `at` on.
+fn put_number(block: &mut [u8], at: usize, number: u32)
+    requires inside { at + 4 ≤ length block.old }
+    ensures { block.new ≡ overwrite block.old at (to_le_bytes w32 number) }
+{
+    block[at..at + 4].copy_from_slice(&number.to_le_bytes());
 }
 
 /// The zone whose number stands at byte `at`.
