@@ -11,6 +11,21 @@ rounded_up a b = (a + b - 1) / b
 abbrev pub set_zones : Shape → Layout → ℕ
 set_zones g l = rounded_up l.meta_blocks g.zone_blocks
 
+-- the layout with which a disk is formatted, where it fits: a map entry and a bitmap for each zone, and as
+-- many chunks as there are zones left behind both sets and those that are reserved
+abbrev pub formatted : Shape → ℕ → Layout
+formatted g reserved =
+    let map_blocks = rounded_up (zone_count g) 512 in
+    let bitmap_blocks = zone_count g * per g in
+    let meta_blocks = 1 + map_blocks + bitmap_blocks in
+    record {
+      meta_blocks = meta_blocks;
+      reserved = reserved;
+      chunks = zone_count g - 2 * rounded_up meta_blocks g.zone_blocks - reserved;
+      map_blocks = map_blocks;
+      bitmap_blocks = bitmap_blocks;
+    }
+
 -- data zones begin behind both sets
 abbrev pub first_data_zone : Shape → Layout → ℕ
 first_data_zone g l = 2 * set_zones g l

@@ -64,6 +64,19 @@ fn a_disk_of_ordinary_size_has_room(rt: HostRuntime) -> Result<(), Fail> {
 }
 
 #[test]
+fn disks_are_formatted_with_all_their_room(rt: HostRuntime) -> Result<(), Fail> {
+    let small = Geometry::new(16, 6, 6)?;
+    assert_eq!(rt; Layout::for_format(&small, 2), Some(SMALL));
+    assert_eq!(rt; Layout::for_format(&small, 0), None);
+    assert_eq!(rt; Layout::for_format(&small, 7), None);
+    assert_eq!(rt; Layout::for_format(&small, u32::MAX), None);
+    let ordinary = Geometry::new(65_536, 524, 51_632)?;
+    assert_eq!(rt; Layout::for_format(&ordinary, 2), Some(ORDINARY));
+    assert_eq!(rt; Layout::for_format(&Geometry::new(16, 2, 6)?, 2), None);
+    Ok(())
+}
+
+#[test]
 fn one_more_chunk_has_no_room(rt: HostRuntime) -> Result<(), Fail> {
     let small = Layout { chunks: 9, ..SMALL };
     assert!(rt; !small.fits(&Geometry::new(16, 6, 6)?));

@@ -103,12 +103,20 @@ fn zone_at(block: &[u8], at: usize) -> Option<ZoneNo>
 mod tests {
     use super::*;
 
-    fn entry(zone: Option<u32>, buffer: Option<u32>) -> MapEntry {
-        MapEntry {
-            zone: zone.map(|number| ZoneNo(number)),
-            buffer: buffer.map(|number| ZoneNo(number)),
-        }
-    }
+    const UNMAPPED: MapEntry = MapEntry {
+        zone: None,
+        buffer: None,
+    };
+
+    const MAPPED: MapEntry = MapEntry {
+        zone: Some(ZoneNo(6)),
+        buffer: None,
+    };
+
+    const BUFFERED: MapEntry = MapEntry {
+        zone: Some(ZoneNo(6)),
+        buffer: Some(ZoneNo(4)),
+    };
 
     /// A map block whose chunk 1 has zone 6, and chunk 511 zone 6 and buffer 4.
     fn map_block() -> [u8; 4096] {
@@ -119,10 +127,22 @@ mod tests {
     }
 
     #[test]
+    fn sets_entries_and_leaves_the_others(rt: HostRuntime) {
+        let mut block = [0; 4096];
+        blank(&mut block);
+        set(&mut block, 1, MAPPED);
+        set(&mut block, 511, BUFFERED);
+        assert_eq!(rt; block, map_block());
+        set(&mut block, 511, UNMAPPED);
+        set(&mut block, 1, UNMAPPED);
+        assert_eq!(rt; block, [0xFF; 4096]);
+    }
+
+    #[test]
     fn reads_unmapped_mapped_and_buffered_entries(rt: HostRuntime) {
         let block = map_block();
-        assert_eq!(rt; get(&block, 0), entry(None, None));
-        assert_eq!(rt; get(&block, 1), entry(Some(6), None));
-        assert_eq!(rt; get(&block, 511), entry(Some(6), Some(4)));
+        assert_eq!(rt; get(&block, 0), UNMAPPED);
+        assert_eq!(rt; get(&block, 1), MAPPED);
+        assert_eq!(rt; get(&block, 511), BUFFERED);
     }
 }

@@ -4,6 +4,7 @@
 ghost use Rattle.std.specs.Prelude.{◌<◌};
 
 use super::*;
+use std::process::Abort;
 use uuid::Uuid;
 
 /// The 16 bytes 705d13ab-1a26-52ae-a1fa-3108df8326ab.
@@ -92,4 +93,33 @@ fn refuses_changed_blocks(rt: HostRuntime) {
     assert_eq!(rt; decode(&version), Err(NotSuper::Version));
     assert_eq!(rt; decode(&crc), Err(NotSuper::Crc));
     assert_eq!(rt; decode(&tail), Err(NotSuper::Tail));
+}
+
+/// Asserts the crc of the block of a head, and that the block stands for it.
+fn assert_crc(rt: &impl Abort, head: &Super, crc: u32) {
+    let mut block = [0x5A; 4096];
+    encode(head, &mut block);
+    assert_eq!(rt; &block[44..48], crc.to_le_bytes().as_slice());
+    assert_eq!(rt; decode(&block), Ok(*head));
+}
+
+#[test]
+fn encodes_heads_of_a_fresh_volume(rt: HostRuntime) {
+    let mut block = [0x5A; 4096];
+    encode(&head(0), &mut block);
+    assert_eq!(rt; block, super_block(0, FIRST_CRC));
+    assert_crc(&rt, &head(16), 0x4df8_0e4a);
+}
+
+#[test]
+fn the_crc_begins_with_the_lower_half_of_the_generation(rt: HostRuntime) {
+    let mut late = head(0);
+    late.generation = 1 << 32;
+    assert_crc(&rt, &late, 0x442d_978b);
+    late.generation = u64::MAX;
+    assert_crc(&rt, &late, 0x5570_c09d);
+    let mut named = head(0);
+    named.generation = 2;
+    named.label[..4].copy_from_slice(b"tank");
+    assert_crc(&rt, &named, 0x1199_e226);
 }
