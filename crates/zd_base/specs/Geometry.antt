@@ -35,7 +35,8 @@ kind_of g zone = if is_conventional g zone then Conventional else Sequential
 pub record IsZoneSize (blocks : ℕ) : Type 0 where
   pub least : 8 ≤ blocks
   pub most : blocks ≤ 65536
-  pub power : IsTrue (list_any (λ k. 2 ^ k == blocks) (3 ∷ 4 ∷ 5 ∷ 6 ∷ 7 ∷ 8 ∷ 9 ∷ 10 ∷ 11 ∷ 12 ∷ 13 ∷ 14 ∷ 15 ∷ 16 ∷ []))
+  pub power : IsTrue (list_any (λ k. 2 ^ k == blocks)
+      (3 ∷ 4 ∷ 5 ∷ 6 ∷ 7 ∷ 8 ∷ 9 ∷ 10 ∷ 11 ∷ 12 ∷ 13 ∷ 14 ∷ 15 ∷ 16 ∷ []))
 
 -- at least one conventional zone, and at most 65,536 zones
 pub record IsZoneCount (conv seq : ℕ) : Type 0 where

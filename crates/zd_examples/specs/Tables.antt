@@ -22,6 +22,13 @@ buffered_tables buffer zone = record {
   bits = replicate 4 [] ++ (buffer ∷ []) ∷ [] ∷ (zone ∷ []) ∷ (1 ∷ []) ∷ [];
 }
 
+-- block 5 of zone 3 and block 0 of zone 4, where no zone is named
+abbrev pub two_unnamed : Tables
+two_unnamed = record {
+  entries = [];
+  bits = [] ∷ [] ∷ [] ∷ (0x20 ∷ []) ∷ (1 ∷ []) ∷ [];
+}
+
 -- chunk 0 on zone 6 with buffer 4, block 0 valid there and block 3 here; chunk 2 on zone 2, its
 -- first and last blocks valid
 abbrev pub served_tables : Tables

@@ -1,12 +1,14 @@
 //! Whole images: what is chosen, whether they are well-formed, and what they hold.
 
-ghost use Rattle.std.specs.Prelude.{◌≡◌, [], ◌∷◌, ◌++◌, Some, None, ℕ, List};
-ghost use Rattle.zd_model.specs.Image.{Image, block_at, set_block};
+ghost use Rattle.std.specs.Prelude.{◌≡◌, [], ◌∷◌, ◌++◌, Some, None, ℕ, List, replicate};
+ghost use Rattle.zd_model.specs.Bytes.{zero_sector};
+ghost use Rattle.zd_model.specs.Image.{Image, IsImage, block_at, set_block};
 ghost use Rattle.zd_model.specs.Plain.{array_after};
 ghost use Rattle.zd_model.specs.Tables.{entry_at};
 ghost use Rattle.zd_model.specs.Volume.{IsWellFormed, bits_in, chosen, content, entry_in};
 ghost use Rattle.zd_examples.specs.Fresh.{fresh_chosen, unmapped};
 ghost use Rattle.zd_examples.specs.Images.{buffered_image, conventional_image, fresh_image};
+ghost use Rattle.zd_examples.specs.Images.{image_of};
 ghost use Rattle.zd_examples.specs.Images.{large_image, places, sequential_image, shared_zone};
 ghost use Rattle.zd_examples.specs.Images.{large_chosen, spare_chosen, spare_image, twice_valid};
 ghost use Rattle.zd_examples.specs.Choices.{at_zone, beginning, second_at};
@@ -22,6 +24,17 @@ pub fn place_examples()
     ensures last { set_block places 1 15 ≡ block_at places 1 15 }
     ensures next_zone { set_block places 1 16 ≡ block_at places 2 0 }
     ensures behind { set_block places 1 33 ≡ block_at places 3 1 }
+{}
+
+/// Conventional zones are full, sequential ones are held up to a pointer in them, and sectors are
+/// 512 bytes.
+pub fn image_examples()
+    ensures blank { IsImage (image_of 128 0 zero_sector) }
+    ensures full { IsImage (image_of 128 128 zero_sector) }
+    ensures past { IsImage (image_of 128 129 zero_sector) → ⊥ }
+    ensures not_full { IsImage (image_of 127 0 zero_sector) → ⊥ }
+    ensures short { IsImage (image_of 128 0 (replicate 511 0)) → ⊥ }
+    ensures no_byte { IsImage (image_of 128 0 (256 ∷ replicate 511 0)) → ⊥ }
 {}
 
 /// Sets are chosen in images of whole blocks.

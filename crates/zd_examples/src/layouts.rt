@@ -1,7 +1,8 @@
 //! Disks, and the layouts that fit them.
 
-ghost use Rattle.std.specs.Prelude.{◌≡◌};
-ghost use Rattle.zd_base.specs.Geometry.{IsShape, IsZoneCount, IsZoneSize, kind_of, per};
+ghost use Rattle.std.specs.Prelude.{◌≡◌, ◌-◌, ◌^◌};
+ghost use Rattle.zd_base.specs.Faults.{Rose};
+ghost use Rattle.zd_base.specs.Geometry.{IsShape, IsZoneCount, IsZoneSize, Refuses, kind_of, per};
 ghost use Rattle.zd_base.specs.Geometry.{zone_sectors};
 ghost use Rattle.zd_base.specs.Layout.{Fits, device_blocks, first_data_zone, set_zones};
 ghost use Rattle.zd_base.specs.Layout.{used_blocks};
@@ -10,7 +11,7 @@ ghost use Rattle.zd_examples.specs.Layouts.{few_bitmaps, large, large_layout, no
 ghost use Rattle.zd_examples.specs.Layouts.{one_data_zone, wide, wide_layout, with_bitmaps};
 ghost use Rattle.zd_examples.specs.Layouts.{with_chunks, with_map, with_meta, with_reserved};
 
-use zd_base::Kind;
+use zd_base::{BadGeometry, Kind};
 
 /// Which numbers are those of a disk.
 pub fn shape_examples()
@@ -66,4 +67,22 @@ pub fn misfit_examples()
     ensures few_bitmaps { Fits large few_bitmaps → ⊥ }
     ensures meta { Fits small (with_meta 13) → ⊥ }
     ensures no_data_zone { Fits no_data_zone fresh_layout → ⊥ }
+{}
+
+/// Why numbers are no disk's: the size comes before the counts.
+pub fn refusal_examples()
+    ensures size { Refuses BadGeometry.Size 24 6 6 }
+    ensures size_first { Refuses BadGeometry.Size 4 0 0 }
+    ensures count { Refuses BadGeometry.Count 16 0 6 }
+    ensures both { Refuses BadGeometry.Count 4 0 0 → ⊥ }
+    ensures right { Refuses BadGeometry.Count 16 6 6 → ⊥ }
+{}
+
+/// A count of faults that rose, by one or more, or that stands at its end.
+pub fn count_examples()
+    ensures one { Rose 3 4 }
+    ensures more { Rose 3 9 }
+    ensures same { Rose 3 3 → ⊥ }
+    ensures at_the_end { Rose (2 ^ 64 - 1) (2 ^ 64 - 1) }
+    ensures near_the_end { Rose (2 ^ 64 - 2) (2 ^ 64 - 2) → ⊥ }
 {}

@@ -4,6 +4,7 @@
 
 pub mod blocks;
 pub mod choices;
+pub mod cuts;
 pub mod histories;
 pub mod images;
 pub mod layouts;

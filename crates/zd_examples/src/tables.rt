@@ -6,7 +6,7 @@ ghost use Rattle.zd_model.specs.Faults.{bad_bit, bad_chunk};
 ghost use Rattle.zd_model.specs.Tables.{sector_of, served};
 ghost use Rattle.zd_examples.specs.Fresh.{buffered, fresh_layout, only, small, unmapped};
 ghost use Rattle.zd_examples.specs.Tables.{buffer_alone, buffered_tables, place_of, served_tables};
-ghost use Rattle.zd_examples.specs.Tables.{with_bits};
+ghost use Rattle.zd_examples.specs.Tables.{two_unnamed, with_bits};
 
 /// Maps whose chunks are all right.
 pub fn right_map_examples()
@@ -52,6 +52,7 @@ pub fn wrong_bit_examples()
     ensures above { bad_bit small (λ z. 8) (with_bits (only 6 ∷ []) 6 (3 ∷ [])) ≡ Some (6, 1) }
     ensures cut { bad_bit small (λ z. 15) (with_bits (only 6 ∷ []) 6 (3 ∷ [])) ≡ Some (6, 1) }
     ensures both { bad_bit small (λ z. 8) (buffered_tables 1 1) ≡ Some (4, 0) }
+    ensures least_zone { bad_bit small (λ z. 0) two_unnamed ≡ Some (3, 5) }
     ensures second { bad_bit small (λ z. 16) (buffered_tables 6 3) ≡ Some (4, 1) }
 {}
 

@@ -1,7 +1,7 @@
 -- What well-formed images hold: sectors of 512 bytes, and the same where the images hold the same.
 use Rattle.std.proofs.Common.{◌≡◌, ℕ, ◌+◌, ◌-◌, ◌*◌, ◌/◌, ◌%◌, ◌<◌, ◌≤◌, Bool, true, false, cond}
 use Rattle.std.proofs.Common.{List, refl, sym, ap, ap₂, ◌∙◌, arith, inl, inr}
-use Rattle.std.proofs.Common.{Option, Some, None, subst, length, IsNone}
+use Rattle.std.proofs.Common.{get_or, Option, Some, None, subst, length, IsNone}
 use Rattle.std.proofs.Math.Nat.{div-mul-le_self, mul-le-mul_right}
 use Rattle.std.proofs.lemmas.Nat.{le-div}
 use Rattle.std.proofs.lemmas.Bool.{cases_lt}
@@ -177,3 +177,10 @@ same_back old new same = record {
     sectors = λ i low. (let held = (same.zones z).held in sym ((same.zones z).sectors i (omega arith)));
   };
 }
+
+-- what is served, by its place
+pub length-served : (b : ℕ) (t : Tables) (sector : ℕ → ℕ → List ℕ) → length (served b t sector) ≡ length t.entries * b * 8
+length-served b t sector = length-map-range_with_len (sector_of b t sector) 0 (length t.entries * b * 8)
+
+pub served-at : (b : ℕ) (t : Tables) (sector : ℕ → ℕ → List ℕ) (i : ℕ) (d : List ℕ) → i < length t.entries * b * 8 → get_or (served b t sector) i d ≡ sector_of b t sector i
+served-at b t sector i d low = get_or-map-range_with_len (sector_of b t sector) 0 (length t.entries * b * 8) i i d low (omega arith)

@@ -1,5 +1,5 @@
 -- The pieces of a request cut it.
-use Rattle.std.proofs.Common.{◌≡◌, ℕ, zero, suc, ◌+◌, ◌-◌, ◌*◌, ◌/◌, ◌<◌, ◌≤◌, min, max, false, List, [], ◌∷◌, map, refl, sym, ap, ◌∙◌, arith}
+use Rattle.std.proofs.Common.{◌≡◌, ℕ, zero, suc, ◌+◌, ◌-◌, ◌*◌, ◌/◌, ◌<◌, ◌≤◌, min, max, true, false, List, [], ◌∷◌, map, refl, sym, ap, ◌∙◌, arith}
 use Rattle.std.proofs.Math.Nat.{mul-le-mul_left, le-div_iff_mul-le}
 use Rattle.std.proofs.lemmas.Nat.{div-mul-add}
 use Rattle.std.specs.List.{range_with_len, enumerate_from}
@@ -83,3 +83,10 @@ parts_within z blocks Flush m within = absurd m
 
 pub pieces_cut : (z blocks n : ℕ) (r : Request) → 1 ≤ z → Moves r.what → 1 ≤ block_count r.what → ends_past (8 * blocks) r.what ≡ false → IsCut z (first_block r.what) (first_block r.what + block_count r.what) (map (λ (p : Piece). p.what) (pieces_of_request z blocks (n, r)))
 pieces_cut z blocks n r some moves full within = rw (whats_of z blocks 0 n r (parts_of z blocks r.what), parts_within z blocks r.what moves within) (parts_cut z r.what some moves full)
+
+-- a request that ends past the device is one part, and so is a flush
+pub parts_past : (z blocks : ℕ) (what : What) → ends_past (8 * blocks) what ≡ true → parts_of z blocks what ≡ what ∷ []
+parts_past z blocks (Read b n) past = rw past refl
+parts_past z blocks (Write b n s) past = rw past refl
+parts_past z blocks (Discard b n) past = rw past refl
+parts_past z blocks Flush past = refl

@@ -1,11 +1,14 @@
 -- A report determines its history and how it ended.
-use Rattle.std.proofs.Common.{◌≡◌, ℕ, ◌*◌, List, [], ◌∷◌, ◌++◌, length, map, refl, sym, ap, ap₂, ◌∙◌, arith, subst, get_or, if◌then◌else◌, ◌==◌, codes}
+use Rattle.std.proofs.Common.{◌≡◌, ℕ, ◌*◌, List, [], ◌∷◌, ◌++◌, length, map, refl, sym, ap, ap₂, ◌∙◌, arith, subst, get_or, if◌then◌else◌, ◌==◌, codes, Bool, true, false, not, eqb, drop}
 use Rattle.std.proofs.lemmas.List.{append_assoc}
 use Rattle.std.specs.List.{AllByRecursion, join_with_byte, flat_map}
 use Rattle.zd_model.specs.Text.{numeral}
 use Rattle.zd_model.specs.Pieces.{first_block}
 use Rattle.zd_model.specs.Script.{letter, numbers_of}
-use Rattle.zd_model.specs.Report.{items_text, reply_text, entry_text, outcome_text, output, report, status_of, HasReply, IsReported}
+use Rattle.std.proofs.lemmas.Bool.{false≢true}
+use Rattle.zd_model.specs.declared.texts.BadLine.{BadLine}
+use Rattle.zd_model.specs.declared.texts.BadLine.TheVariants as lines
+use Rattle.zd_model.specs.Report.{why_text, items_text, reply_text, entry_text, outcome_text, output, report, status_of, HasReply, IsReported}
 use Rattle.zd_model.specs.declared.requests.What.{What}
 use Rattle.zd_model.specs.declared.requests.What.TheVariants.{Read, Write, Discard, Flush}
 use Rattle.zd_model.specs.Plain.{Answer}
@@ -151,6 +154,7 @@ ends (outcomes.Ended (endings.Stopped whys.Device)) = record { after = _; is = r
 ends (outcomes.Ended (endings.Stopped whys.Generation)) = record { after = _; is = refl }
 ends (outcomes.Ended (endings.Stopped whys.Memory)) = record { after = _; is = refl }
 ends outcomes.Usage = record { after = _; is = refl }
+ends (outcomes.BadScript line why) = record { after = _; is = refl }
 ends (outcomes.NoVolume volumes.NoSuperBlock) = record { after = _; is = refl }
 ends (outcomes.NoVolume volumes.Layout) = record { after = _; is = refl }
 ends outcomes.Source = record { after = _; is = refl }
@@ -177,18 +181,85 @@ outcome_by status next letter =
 outcome_of : List ℕ → Outcome
 outcome_of xs = outcome_by (get_or xs 4 0) (get_or xs 5 0) (get_or xs 13 0)
 
+-- no line of a script is told
+is_plain : Outcome → Bool
+is_plain (outcomes.BadScript line why) = false
+is_plain outcome = true
+
+-- the text determines the outcome, where it tells no line
+outcome-text : (o : Outcome) → is_plain o ≡ true → outcome_of (outcome_text o) ≡ o
+unfolding outcome_of outcome_by stopped_by is_plain
+outcome-text (outcomes.Ended endings.Ok) h = refl
+outcome-text (outcomes.Ended (endings.Stopped whys.Device)) h = refl
+outcome-text (outcomes.Ended (endings.Stopped whys.Generation)) h = refl
+outcome-text (outcomes.Ended (endings.Stopped whys.Memory)) h = refl
+outcome-text outcomes.Usage h = refl
+outcome-text (outcomes.BadScript line why) h = absurd (false≢true h)
+outcome-text (outcomes.NoVolume volumes.NoSuperBlock) h = refl
+outcome-text (outcomes.NoVolume volumes.Layout) h = refl
+outcome-text outcomes.Source h = refl
+outcome-text outcomes.NotBuilt h = refl
+
+-- the digit behind `end ` says whether it tells one
+plain-text : (o : Outcome) → not (eqb (get_or (outcome_text o) 4 0) 50) ≡ is_plain o
+unfolding is_plain
+plain-text (outcomes.Ended endings.Ok) = refl
+plain-text (outcomes.Ended (endings.Stopped whys.Device)) = refl
+plain-text (outcomes.Ended (endings.Stopped whys.Generation)) = refl
+plain-text (outcomes.Ended (endings.Stopped whys.Memory)) = refl
+plain-text outcomes.Usage = refl
+plain-text (outcomes.BadScript line why) = refl
+plain-text (outcomes.NoVolume volumes.NoSuperBlock) = refl
+plain-text (outcomes.NoVolume volumes.Layout) = refl
+plain-text outcomes.Source = refl
+plain-text outcomes.NotBuilt = refl
+
+-- a rule, by its first letter
+rule_by : ℕ → BadLine
+rule_by letter = if letter == 102 then lines.Form else (if letter == 110 then lines.Number else (if letter == 99 then lines.Caller else lines.TooLong))
+
+rule-text : (why : BadLine) → rule_by (get_or (why_text why ++ 10 ∷ []) 0 0) ≡ why
+unfolding rule_by
+rule-text lines.Form = refl
+rule-text lines.Number = refl
+rule-text lines.Caller = refl
+rule-text lines.TooLong = refl
+
+space_ends : IsDigit 32 → ⊥
+space_ends d = let low = d.low in omega arith
+
+-- a line and a rule that are told
+same_refusal : (m n : ℕ) (v w : BadLine) → outcome_text (outcomes.BadScript m v) ≡ outcome_text (outcomes.BadScript n w) → outcomes.BadScript m v ≡ outcomes.BadScript n w
+same_refusal m n v w e =
+    let behind : numeral m ++ 32 ∷ (why_text v ++ 10 ∷ []) ≡ numeral n ++ 32 ∷ (why_text w ++ 10 ∷ []) = ap (λ (xs : List ℕ). drop 13 xs) e in
+    let same = same_numeral m n 32 32 (why_text v ++ 10 ∷ []) (why_text w ++ 10 ∷ []) space_ends space_ends behind in
+    let rule = sym (rule-text v) ∙ ap (λ (xs : List ℕ). rule_by (get_or xs 0 0)) same.after ∙ rule-text w in
+    ap₂ (λ (l : ℕ) (y : BadLine). outcomes.BadScript l y) same.number rule
+
+told_line : (o p : Outcome) → is_plain o ≡ false → is_plain p ≡ false → outcome_text o ≡ outcome_text p → o ≡ p
+unfolding is_plain
+told_line (outcomes.BadScript m v) (outcomes.BadScript n w) h k e = same_refusal m n v w e
+told_line (outcomes.BadScript m v) (outcomes.Ended f) h k e = absurd (false≢true (sym k))
+told_line (outcomes.BadScript m v) outcomes.Usage h k e = absurd (false≢true (sym k))
+told_line (outcomes.BadScript m v) (outcomes.NoVolume f) h k e = absurd (false≢true (sym k))
+told_line (outcomes.BadScript m v) outcomes.Source h k e = absurd (false≢true (sym k))
+told_line (outcomes.BadScript m v) outcomes.NotBuilt h k e = absurd (false≢true (sym k))
+told_line (outcomes.Ended f) p h k e = absurd (false≢true (sym h))
+told_line outcomes.Usage p h k e = absurd (false≢true (sym h))
+told_line (outcomes.NoVolume f) p h k e = absurd (false≢true (sym h))
+told_line outcomes.Source p h k e = absurd (false≢true (sym h))
+told_line outcomes.NotBuilt p h k e = absurd (false≢true (sym h))
+
 -- the text determines the outcome
-outcome-text : (o : Outcome) → outcome_of (outcome_text o) ≡ o
-unfolding outcome_of outcome_by stopped_by
-outcome-text (outcomes.Ended endings.Ok) = refl
-outcome-text (outcomes.Ended (endings.Stopped whys.Device)) = refl
-outcome-text (outcomes.Ended (endings.Stopped whys.Generation)) = refl
-outcome-text (outcomes.Ended (endings.Stopped whys.Memory)) = refl
-outcome-text outcomes.Usage = refl
-outcome-text (outcomes.NoVolume volumes.NoSuperBlock) = refl
-outcome-text (outcomes.NoVolume volumes.Layout) = refl
-outcome-text outcomes.Source = refl
-outcome-text outcomes.NotBuilt = refl
+same_outcome : (o p : Outcome) → outcome_text o ≡ outcome_text p → o ≡ p
+same_outcome o p e = by_digit (is_plain o) refl
+  where
+    alike : is_plain o ≡ is_plain p
+    alike = sym (plain-text o) ∙ ap (λ (xs : List ℕ). not (eqb (get_or xs 4 0) 50)) e ∙ plain-text p
+
+    by_digit : (b : Bool) → is_plain o ≡ b → o ≡ p
+    by_digit true h = sym (outcome-text o h) ∙ ap outcome_of e ∙ outcome-text p (sym alike ∙ h)
+    by_digit false h = told_line o p h (sym alike ∙ h) e
 
 -- and begins with its status
 pub tells_status : (o : Outcome) → (rest : List ℕ) × (outcome_text o ≡ codes "end " ++ numeral (status_of o) ++ 32 ∷ rest)
@@ -198,6 +269,7 @@ tells_status (outcomes.Ended (endings.Stopped whys.Device)) = (_, refl)
 tells_status (outcomes.Ended (endings.Stopped whys.Generation)) = (_, refl)
 tells_status (outcomes.Ended (endings.Stopped whys.Memory)) = (_, refl)
 tells_status outcomes.Usage = (_, refl)
+tells_status (outcomes.BadScript line why) = (_, refl)
 tells_status (outcomes.NoVolume volumes.NoSuperBlock) = (_, refl)
 tells_status (outcomes.NoVolume volumes.Layout) = (_, refl)
 tells_status outcomes.Source = (_, refl)
@@ -210,7 +282,7 @@ pub record SameOutput (history other : List HistoryEntry) (outcome last : Outcom
 -- an output determines the history and the outcome
 pub same_output : (history other : List HistoryEntry) (outcome last : Outcome) → AllByRecursion IsReported history → AllByRecursion IsReported other → output history outcome ≡ output other last → SameOutput history other outcome last
 unfolding output
-same_output [] [] outcome last h k e = record { entries = refl; outcomes_are = sym (outcome-text outcome) ∙ ap outcome_of e ∙ outcome-text last }
+same_output [] [] outcome last h k e = record { entries = refl; outcomes_are = same_outcome outcome last e }
 same_output [] (f ∷ other) outcome last h k e = absurd (no_entry outcome f (flat_map entry_text other ++ outcome_text last) (e ∙ append_assoc (entry_text f) (flat_map entry_text other) (outcome_text last)))
 same_output (f ∷ history) [] outcome last h k e = absurd (no_entry last f (flat_map entry_text history ++ outcome_text outcome) (sym e ∙ append_assoc (entry_text f) (flat_map entry_text history) (outcome_text outcome)))
 same_output (f ∷ history) (g ∷ other) outcome last h k e =

@@ -22,7 +22,7 @@ use Rattle.zd_model.specs.declared.texts.Outcome.TheVariants as outcomes
 use Rattle.zd_model.specs.declared.metadata.Super.{Super}
 use Rattle.zd_model.specs.declared.requests.Request.{Request}
 use Rattle.zd_model.specs.declared.requests.Piece.{Piece}
-use Rattle.zd_model.specs.History.{HistoryEntry}
+use Rattle.zd_model.specs.History.{HistoryEntry, IsLegal, last_array}
 use Rattle.zd_model.specs.Stops.{flushed, last_flush, unflushed}
 use Rattle.zd_model.specs.declared.texts.BadLine.{BadLine}
 use Rattle.zd_model.specs.declared.requests.Ending.{Ending}
@@ -82,6 +82,16 @@ AnOutcomeTellsItsStatus = (outcome : Outcome) → (rest : List ℕ) ×
 -- what a write puts into a sector is a sector
 abbrev pub PatternsAreSectors : Type 0
 PatternsAreSectors = (seed i : ℕ) → IsSector (pattern seed i)
+
+-- the plain array keeps its length, and stays one of sectors
+abbrev pub ArraysStaySectors : Type 0
+ArraysStaySectors = (base : List (List ℕ)) (history : List HistoryEntry) → All IsSector base →
+    (length (last_array base history) ≡ length base) × All IsSector (last_array base history)
+
+-- over an array of sectors, each history of the plain array can be reported
+abbrev pub LegalHistoriesAreReported : Type 0
+LegalHistoriesAreReported = (base : List (List ℕ)) (history : List HistoryEntry) →
+    All IsSector base → IsLegal base history → AllByRecursion IsReported history
 
 -- a history is parted behind the last flush that was acknowledged when k calls had returned
 abbrev pub HistoriesPartAtTheLastFlush : Type 0

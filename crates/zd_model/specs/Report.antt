@@ -15,6 +15,8 @@ use Rattle.zd_model.specs.Plain.{Answer as replies}
 use Rattle.zd_model.specs.History.{HistoryEntry}
 use Rattle.zd_model.specs.declared.requests.Ending.{Ending}
 use Rattle.zd_model.specs.declared.requests.Ending.TheVariants as endings
+use Rattle.zd_model.specs.declared.texts.BadLine.{BadLine}
+use Rattle.zd_model.specs.declared.texts.BadLine.TheVariants as lines
 use Rattle.zd_model.specs.declared.texts.Outcome.{Outcome}
 use Rattle.zd_model.specs.declared.texts.Outcome.TheVariants as outcomes
 use Rattle.zd_model.specs.declared.texts.NoVolume.TheVariants as volumes
@@ -100,14 +102,24 @@ status_of (outcomes.Ended (endings.Stopped whys.Device)) = 4
 status_of (outcomes.Ended (endings.Stopped whys.Memory)) = 7
 status_of (outcomes.Ended (endings.Stopped whys.Generation)) = 8
 status_of outcomes.Usage = 1
+status_of (outcomes.BadScript line why) = 2
 status_of (outcomes.NoVolume why) = 3
 status_of outcomes.Source = 5
 status_of outcomes.NotBuilt = 11
+
+-- the rule that a line of a script breaks
+abbrev pub why_text : BadLine → List ℕ
+why_text lines.Form = codes "form"
+why_text lines.Number = codes "number"
+why_text lines.Caller = codes "caller"
+why_text lines.TooLong = codes "long"
 
 -- the last line of a run's output; that of a session's ending is the ending's
 abbrev pub outcome_text : Outcome → List ℕ
 outcome_text (outcomes.Ended ending) = ending_text ending
 outcome_text outcomes.Usage = codes "end 1 usage\n"
+outcome_text (outcomes.BadScript line why) =
+    codes "end 2 script " ++ (numeral line ++ 32 ∷ (why_text why ++ 10 ∷ []))
 outcome_text (outcomes.NoVolume volumes.NoSuperBlock) = codes "end 3 volume no-super-block\n"
 outcome_text (outcomes.NoVolume volumes.Layout) = codes "end 3 volume layout\n"
 outcome_text outcomes.Source = codes "end 5 source\n"

@@ -2,6 +2,7 @@
 
 ghost use Rattle.zd_model.specs.Laws.{EachRecordHasABlock, OneRecordHasOneBlock};
 ghost use Rattle.zd_model.specs.Laws.{OneBlockHasOneRecord, DecodesToItsRecord, PatternsAreSectors};
+ghost use Rattle.zd_model.specs.Laws.{ArraysStaySectors, LegalHistoriesAreReported};
 ghost use Rattle.zd_model.specs.Laws.{HistoriesPartAtTheLastFlush};
 ghost use Rattle.zd_model.specs.Laws.{PiecesCutARequest, OneScriptHasOnePlan, OneTextHasOneRefusal};
 ghost use Rattle.zd_model.specs.Laws.{OneOutputHasOneHistory, OneReportHasOneHistory};
@@ -18,11 +19,13 @@ pub fn super_block_laws()
     ensures decoded { DecodesToItsRecord }
 {}
 
-/// Requests are cut at the bounds of chunks, write sectors of 512 bytes, and are flushed up to the
-/// last flush.
+/// Requests are cut at the bounds of chunks and keep an array of sectors; a history can be
+/// reported, and is parted at its last flush.
 pub fn request_laws()
     ensures pieces { PiecesCutARequest }
     ensures pattern { PatternsAreSectors }
+    ensures array { ArraysStaySectors }
+    ensures reported { LegalHistoriesAreReported }
     ensures flush { HistoriesPartAtTheLastFlush }
 {}
 

@@ -31,6 +31,9 @@ pub enum Outcome {
     Ended(Ending),
     /// The words are no command.
     Usage,
+    /// The bytes are no script: the first line that breaks a rule, counted from 1, and the first rule
+    /// that it breaks. Line 0 stands for the whole.
+    BadScript { line: u32, why: BadLine },
     /// The image is no volume.
     NoVolume(NoVolume),
     /// The script couldn't be read.

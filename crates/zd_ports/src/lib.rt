@@ -1,7 +1,8 @@
-//! Where scripts come from, and where reports go.
+//! Where scripts come from, where reports go, and what goes on step by step between the two.
 #![tactic(auto)]
 
 mod faults;
+mod gate;
 mod mem_sink;
 mod mem_source;
 mod no_source;
@@ -9,9 +10,11 @@ mod paths;
 mod sink;
 mod source;
 mod std_ports;
+mod stepper;
 #[cfg(test)]
 mod tests;
 
+pub use gate::{FreeGate, Gate};
 pub use mem_sink::MemSink;
 pub use mem_source::MemSource;
 pub use no_source::NoSource;
@@ -19,4 +22,5 @@ pub use paths::Paths;
 pub use sink::Sink;
 pub use source::Source;
 pub use std_ports::{StdSink, StdSource};
+pub use stepper::Stepper;
 pub use zd_base::{Failed, Memory};

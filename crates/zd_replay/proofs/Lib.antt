@@ -1,10 +1,6 @@
 pub mod OpeningLaws
 pub mod PieceLaws
 pub mod ZeroLaws
-pub mod NumberLaws
-pub mod PlanLaws
-pub mod ReadsLaws
-pub mod LineText
 pub mod SinkLaws
 pub mod ReportLaws
 pub mod RunLaws

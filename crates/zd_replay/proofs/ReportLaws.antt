@@ -1,8 +1,5 @@
 -- How the report of a run comes together.
-use Rattle.std.proofs.Common.{◌≡◌, ◌⊎◌, ℕ, ◌+◌, ◌*◌, ◌/◌, ◌<◌, ◌≤◌, ◌^◌, ◌-◌, List, [], ◌∷◌, ◌++◌, length, map, take, Option, Some, refl, sym, ap, ◌∙◌, subst, inl, inr, arith}
-use Rattle.std.specs.List.{AllByRecursion, flat_map}
-use Rattle.zd_base.specs.Geometry.{Shape}
-use Rattle.zd_base.specs.declared.numbers.Why.{Why}
+use Rattle.std.proofs.Common.{◌≡◌, ◌⊎◌, ℕ, ◌/◌, ◌≤◌, List, [], length, map, Option, refl, sym, ap, ◌∙◌, subst, inl, inr, arith}
 use Rattle.zd_base.specs.declared.numbers.Why.TheVariants as whys
 use Rattle.zd_model.specs.Image.{Image}
 use Rattle.zd_model.specs.History.{HistoryEntry, mark_of_piece, marks_of_caller}
@@ -14,12 +11,16 @@ use Rattle.zd_model.specs.declared.requests.Ending.TheVariants as endings
 use Rattle.zd_model.specs.declared.texts.Outcome.{Outcome}
 use Rattle.zd_model.specs.declared.texts.Outcome.TheVariants as outcomes
 use Rattle.zd_replay.specs.Opening.{Explains, Opens}
-use Rattle.zd_replay.specs.Reads.{IsScriptOfReads, IsNoScriptOfReads}
-use Rattle.zd_replay.specs.declared.script.ScriptFault.{ScriptFault}
-use Rattle.zd_replay.specs.declared.script.ScriptFault.TheVariants as scripts
-use Rattle.zd_replay.specs.declared.tables.OpenFault.{OpenFault}
-use Rattle.zd_replay.specs.declared.tables.OpenFault.TheVariants as opens
-use Rattle.zd_replay.specs.Replay.{Takes, Tells, HasStatus, IsHistory, IsCommand, IsRunnable, Comes, Ends, open_outcome, script_outcome, AreCounted, Reports, fault_count, no_memory}
+use Rattle.zd_replay.specs.Reads.{IsScriptOfReads}
+use Rattle.std.specs.Prelude.{Err}
+use Rattle.zd_model.specs.Script.{Refuses}
+use Rattle.zd_model.specs.declared.texts.BadLine.{BadLine}
+use Rattle.zd_script.specs.Fault.{IfBad}
+use Rattle.zd_script.specs.declared.fault.ScriptFault.{ScriptFault}
+use Rattle.zd_script.specs.declared.fault.ScriptFault.TheVariants as scripts
+use Rattle.zd_replay.specs.declared.opening.OpenFault.{OpenFault}
+use Rattle.zd_replay.specs.declared.opening.OpenFault.TheVariants as opens
+use Rattle.zd_replay.specs.Replay.{Takes, Tells, HasStatus, IsHistory, IsCommand, IsRunnable, Comes, Ends, open_outcome, script_outcome, Reports, fault_count, no_memory}
 
 -- the text of an outcome alone
 alone_text : (outcome : Outcome) → output [] outcome ≡ outcome_text outcome
@@ -118,16 +119,23 @@ unopened (opens.NoVolume kind) e = let f = ap status_of e in omega arith
 unopened opens.NotBuilt e = let f = ap status_of e in omega arith
 unopened opens.Memory e = let f = ap status_of e in omega arith
 
--- a script that can't be run ends the run so
-pub ends_unread : (fault : ScriptFault) (bytes : List ℕ) (image : Image) → (fault ≡ scripts.NotReads → IsNoScriptOfReads bytes) → Ends bytes image (script_outcome fault)
-ends_unread scripts.Source bytes image why = tt
-ends_unread scripts.NotReads bytes image why = inl (why refl)
-ends_unread scripts.Memory bytes image why = tt
+-- a script that can't be read ends the run so
+pub ends_unread : (fault : ScriptFault) (bytes : List ℕ) (image : Image) → ((line : ℕ) (why : BadLine) → fault ≡ scripts.Bad line why → Refuses bytes line why) → Ends bytes image (script_outcome fault)
+ends_unread (scripts.Bad line why) bytes image bad = bad line why refl
+ends_unread scripts.Source bytes image bad = tt
+ends_unread scripts.Memory bytes image bad = tt
 
 pub unread : (fault : ScriptFault) → script_outcome fault ≡ outcomes.Ended endings.Ok → ⊥
+unread (scripts.Bad line why) e = let f = ap status_of e in omega arith
 unread scripts.Source e = let f = ap status_of e in omega arith
-unread scripts.NotReads e = let f = ap status_of e in omega arith
 unread scripts.Memory e = let f = ap status_of e in omega arith
+
+pub unbuilt : outcomes.NotBuilt ≡ outcomes.Ended endings.Ok → ⊥
+unbuilt e = let f = ap status_of e in omega arith
+
+-- what is told of a bad line holds of the line that the fault has
+pub of_line : (T : Type 0) (fault : ScriptFault) (P : ℕ → BadLine → Type 0) → IfBad {T = T} (Err fault) P → (line : ℕ) (why : BadLine) → fault ≡ scripts.Bad line why → P line why
+of_line T fault P h line why e = subst (λ (f : ScriptFault). IfBad {T = T} (Err f) P) e h
 
 -- a session ends so
 pub ends_run : (ending : Ending) (bytes : List ℕ) (image : Image) → (ending ≡ endings.Ok) ⊎ (ending ≡ endings.Stopped whys.Memory) → IsRunnable bytes → Opens image → Ends bytes image (outcomes.Ended ending)
@@ -142,3 +150,15 @@ history_of image plan history ending h = record { legal = h.legal; ordered = h.o
 
 pub no_usage : outcomes.Usage ≡ outcomes.Ended endings.Ok → ⊥
 no_usage e = let f = ap status_of e in omega arith
+
+-- the report of a run whose script couldn't be read
+pub reports_unread : (words : List (List ℕ)) (bytes : List ℕ) (image : Image) (outcome : Outcome) (status faults now : ℕ) (before : List ℕ) (after : Option (List ℕ)) (whole : Type 0)
+    → IsCommand words → Ends bytes image outcome → (outcome ≡ outcomes.Ended endings.Ok → ⊥) → faults ≤ now
+    → Tells [] outcome status before after whole
+    → Reports words bytes image status faults now before after whole
+reports_unread words bytes image outcome status faults now before after whole right ends undone later t =
+    let none : t.entries ≡ [] = elim t.which [ inl same ↦ same.0 | inr same ↦ same.0 ] in
+    let why : Ends bytes image t.ending = elim t.which [ inl same ↦ subst (Ends bytes image) (sym same.1) ends | inr same ↦ subst (Ends bytes image) (sym same.1) tt ] in
+    let open_end : t.ending ≡ outcomes.Ended endings.Ok → ⊥ = elim t.which [ inl same ↦ (λ e. undone (sym same.1 ∙ e)) | inr same ↦ (λ e. not_memory (sym same.1 ∙ e)) ] in
+    reports_alone words bytes image t.ending status faults now before after whole (inr (right, why)) open_end later t.answers
+    (subst (λ (h : List HistoryEntry). Takes before after (output h t.ending) whole) none t.taken)

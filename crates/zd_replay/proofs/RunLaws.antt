@@ -1,6 +1,6 @@
 -- The run of a plan over a volume that nobody wrote.
-use Rattle.std.proofs.Common.{◌≡◌, ℕ, zero, suc, ◌+◌, ◌-◌, ◌*◌, ◌/◌, ◌<◌, ◌≤◌, Bool, true, false, cond, List, [], ◌∷◌, ◌++◌, length, map, take, replicate, refl, sym, ap, ◌∙◌, subst, arith}
-use Rattle.std.proofs.lemmas.List.{length-replicate, take_all}
+use Rattle.std.proofs.Common.{◌≡◌, ℕ, ◌*◌, ◌/◌, ◌≤◌, Bool, true, false, cond, List, [], ◌∷◌, length, map, take, replicate, refl, ap, ◌∙◌, arith}
+use Rattle.std.proofs.lemmas.List.{length-replicate}
 use Rattle.std.proofs.lemmas.List.Sums.{sum_by-append}
 use Rattle.std.specs.List.{AllByRecursion}
 use Rattle.zd_base.specs.Geometry.{Shape}
@@ -9,7 +9,7 @@ use Rattle.zd_model.specs.Bytes.{zero_sector}
 use Rattle.zd_model.specs.Image.{Image}
 use Rattle.zd_model.specs.Pieces.{block_count, pieces_of}
 use Rattle.zd_model.specs.Plain.Answer.{Got, Range}
-use Rattle.zd_model.specs.History.{HistoryEntry, IsLegal, IsOrdered, marks_of_caller, mark_of_entry, mark_of_piece}
+use Rattle.zd_model.specs.History.{HistoryEntry}
 use Rattle.zd_model.specs.Script.{HasNumbers}
 use Rattle.zd_model.specs.declared.metadata.Super.{Super}
 use Rattle.zd_model.specs.declared.requests.What.{What}
@@ -17,10 +17,10 @@ use Rattle.zd_model.specs.declared.requests.What.TheVariants.{Read, Write, Disca
 use Rattle.zd_model.specs.declared.requests.Piece.{Piece}
 use Rattle.zd_model.specs.declared.requests.Request.{Request}
 use Rattle.zd_replay.specs.Opening.{IsOpened, base_of}
-use Rattle.zd_replay.specs.Reads.{IsScriptOfReads, IsFirstCallersRead, Reads}
-use Rattle.zd_replay.specs.Replay.{IsHistory, IsReadPlan, IsWhole, fault_count, is_fault}
-use Rattle.zd_replay.specs.Run.{zeros_for, AnswersZeros}
-use Rattle.zd_replay.proofs.PieceLaws.{IsRead, ReadsSome, pieces_right}
+use Rattle.zd_replay.specs.Reads.{IsFirstCallersRead, Reads}
+use Rattle.zd_replay.specs.Replay.{IsHistory, IsReadPlan, fault_count, is_fault}
+use Rattle.zd_replay.specs.Run.{zeros_for}
+use Rattle.zd_replay.proofs.PieceLaws.{ReadsSome, pieces_right}
 use Rattle.zd_replay.proofs.ZeroLaws.{base_is, zeros_legal, zeros_ordered, zeros_whole}
 
 read_some : (w : What) → HasNumbers w → Reads w → ReadsSome w
@@ -29,7 +29,8 @@ read_some (Write b n s) h reads = absurd reads
 read_some (Discard b n) h reads = absurd reads
 read_some Flush h reads = absurd reads
 
-each_some : (plan : List Request) → AllByRecursion (λ (r : Request). HasNumbers r.what) plan → AllByRecursion IsFirstCallersRead plan → AllByRecursion (λ (r : Request). ReadsSome r.what) plan
+each_some : (plan : List Request) → AllByRecursion (λ (r : Request). HasNumbers r.what) plan
+    → AllByRecursion IsFirstCallersRead plan → AllByRecursion (λ (r : Request). ReadsSome r.what) plan
 each_some [] h k = tt
 each_some (r ∷ plan) h k = (read_some r.what h.0 k.0.1, each_some plan h.1 k.1)
 
@@ -38,9 +39,11 @@ pub plan_some : (plan : List Request) → IsReadPlan plan → AllByRecursion (λ
 plan_some plan p = each_some plan p.1.script.lines.numbers p.1.reads
 
 -- the answers to the first k pieces of a plan make a history
-pub entered : (g : Shape) (head : Super) (image : Image) (plan : List Request) (z blocks k : ℕ) (history : List HistoryEntry) (whole : Type 0)
+pub entered :
+    (g : Shape) (head : Super) (image : Image) (plan : List Request) (z blocks k : ℕ) (history : List HistoryEntry) (whole : Type 0)
     → IsOpened g head image → IsReadPlan plan → z ≡ g.zone_blocks → blocks ≡ device_blocks g head.layout → 1 ≤ z
-    → history ≡ map zeros_for (take k (pieces_of z blocks plan)) → (whole → history ≡ map zeros_for (pieces_of z blocks plan))
+    → history ≡ map zeros_for (take k (pieces_of z blocks plan))
+    → (whole → history ≡ map zeros_for (pieces_of z blocks plan))
     → IsHistory image plan history whole
 entered g head image plan z blocks k history whole o p size count some is all =
     let base : base_of image ≡ replicate (8 * blocks) zero_sector = base_is g head image o ∙ (let n : device_blocks g head.layout * 8 ≡ 8 * blocks = omega (arith, count) in ap (λ (m : ℕ). replicate m zero_sector) n) in
@@ -53,26 +56,6 @@ entered g head image plan z blocks k history whole o p size count some is all =
       all = λ w. rw (device, ← chunk, all w) (zeros_whole z blocks plan);
     }
 
-answer_zeros : (n : ℕ) (p : Piece) → IsRead n p → AnswersZeros p.what (zeros_for p).reply
-answer_zeros n p h = by_kind p.what h.reads h.some p.range
-  where
-    by_kind : (w : What) → Reads w → 1 ≤ block_count w → (past : Bool) → AnswersZeros w (cond past Range (Got (replicate (4096 * block_count w) 0)))
-    by_kind (Read b c) reads some true = tt
-    by_kind (Read b c) reads some false = (some, refl)
-    by_kind (Write b c s) reads some past = absurd reads
-    by_kind (Discard b c) reads some past = absurd reads
-    by_kind Flush reads some past = absurd reads
-
-zeros_each : (n k : ℕ) (pieces : List Piece) → AllByRecursion (IsRead n) pieces → AllByRecursion (λ (e : HistoryEntry). AnswersZeros e.what e.reply) (map zeros_for (take k pieces))
-zeros_each n zero pieces h = tt
-zeros_each n (suc k) [] h = tt
-zeros_each n (suc k) (p ∷ pieces) h = (answer_zeros n p h.0, zeros_each n k pieces h.1)
-
-pub all_zeros : (plan : List Request) (z blocks k : ℕ) (history : List HistoryEntry) → IsReadPlan plan → 1 ≤ z → history ≡ map zeros_for (take k (pieces_of z blocks plan))
-    → AllByRecursion (λ (e : HistoryEntry). AnswersZeros e.what e.reply) history
-all_zeros plan z blocks k history p some is =
-    rw is (zeros_each (8 * blocks) k (pieces_of z blocks plan) (pieces_right z blocks plan some (plan_some plan p)))
-
 no_fault : (p : Piece) → is_fault (zeros_for p).reply ≡ false
 no_fault p = by_mark p.range
   where
@@ -80,6 +63,7 @@ no_fault p = by_mark p.range
     by_mark true = refl
     by_mark false = refl
 
+-- none of them is a fault
 pub no_faults : (pieces : List Piece) → fault_count (map zeros_for pieces) ≡ 0
 no_faults [] = refl
 no_faults (p ∷ pieces) =

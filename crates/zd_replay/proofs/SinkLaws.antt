@@ -1,9 +1,7 @@
 -- What a sink took, one call on, and the entries of a history one by one.
-use Rattle.std.proofs.Common.{◌≡◌, ◌+◌, ◌-◌, ◌≤◌, ℕ, zero, suc, List, [], ◌∷◌, ◌++◌, take, drop, length, Some, IfSome, Option, refl, sym, ◌∙◌, ap, arith, append_assoc, take-append-drop, add-one}
+use Rattle.std.proofs.Common.{◌≡◌, ◌+◌, ◌-◌, ◌≤◌, ℕ, List, [], ◌++◌, take, drop, length, Some, IfSome, Option, refl, sym, ◌∙◌, ap, arith, append_assoc, take-append-drop}
 use Rattle.std.proofs.Math.Seq.{take-add}
-use Rattle.std.specs.List.{slice_get, flat_map}
-use Rattle.std.proofs.lemmas.List.{take-take, append-nil, flat_map_more}
-use Rattle.zd_disk.specs.Told.{WhereTold}
+use Rattle.std.proofs.lemmas.List.{take-take}
 use Rattle.zd_disk.proofs.ToldLaws.{IfSome-at}
 use Rattle.std.specs.Prelude.{Result, Ok, Err, is_ok, IsOk, OnErr, Bool, true}
 use Rattle.std.proofs.Common.{inl, inr}
@@ -24,29 +22,19 @@ held_more here after before bytes at n held wrote fits =
     ∙ ap (λ (l : List ℕ). before ++ l) (sym (take-add at n bytes)))
 
 -- the bytes so far are a front, and the whole where no more are left
-pub took_front : (here : Option (List ℕ)) (before bytes : List ℕ) (at : ℕ) (whole : Type 0) → here ≡ Some (before ++ take at bytes) → (whole → drop at bytes ≡ []) → Takes before here bytes whole
+pub took_front : (here : Option (List ℕ)) (before bytes : List ℕ) (at : ℕ) (whole : Type 0)
+    → here ≡ Some (before ++ take at bytes) → (whole → drop at bytes ≡ []) → Takes before here bytes whole
 took_front here before bytes at whole held all = record { front = take at bytes; rest = drop at bytes; taken = held; is_front = take-append-drop at bytes; all = all }
 
-pub drop_all : (bytes : List ℕ) (at : ℕ) → length bytes ≤ at → drop at bytes ≡ []
-drop_all [] zero h = refl
-drop_all [] (suc at) h = refl
-drop_all (b ∷ bytes) zero h = absurd (omega arith)
-drop_all (b ∷ bytes) (suc at) h = drop_all bytes at (omega arith)
-
-take_found : {X : Type 0} (xs : List X) (i : ℕ) (x : X) → slice_get xs i ≡ Some x → take (suc i) xs ≡ take i xs ++ x ∷ []
-take_found [] i x e = absurd (let f : ⊥ = cc in f)
-take_found (y ∷ ys) zero x e = let same : y ≡ x = cc in ap (λ z. z ∷ []) same
-take_found (y ∷ ys) (suc i) x e = ap (λ l. y ∷ l) (take_found ys i x e)
-
-pub flat_map_found : {X : Type 0} (f : X → List ℕ) (xs : List X) (i : ℕ) (x : X) → slice_get xs i ≡ Some x → flat_map f (take (i + 1) xs) ≡ flat_map f (take i xs) ++ f x
-flat_map_found f xs i x e = rw (add-one, take_found xs i x e) (sym (flat_map_more f [] (take i xs) x))
-
 -- what is the whole under one fact is so under another that leads to it
-pub taken_where : (before : List ℕ) (after : Option (List ℕ)) (bytes : List ℕ) (whole other : Type 0) → (other → whole) → Takes before after bytes whole → Takes before after bytes other
-taken_where before after bytes whole other leads t = record { front = t.front; rest = t.rest; taken = t.taken; is_front = t.is_front; all = λ o. t.all (leads o) }
+pub taken_where : (before : List ℕ) (after : Option (List ℕ)) (bytes : List ℕ) (whole other : Type 0)
+    → (other → whole) → Takes before after bytes whole → Takes before after bytes other
+taken_where before after bytes whole other leads t =
+    record { front = t.front; rest = t.rest; taken = t.taken; is_front = t.is_front; all = λ o. t.all (leads o) }
 
 -- a call that answered Ok, or whose object didn't fail
-pub told_where : {T E : Type 0} (r : Result T E) (told : Bool) (status before now : ℕ) → told ≡ is_ok r → (status ≡ 0 → told ≡ true) → OnErr r (Rose before now) → IsTaken status before now → IsOk r
+pub told_where : {T E : Type 0} (r : Result T E) (told : Bool) (status before now : ℕ) → told ≡ is_ok r
+    → (status ≡ 0 → told ≡ true) → OnErr r (Rose before now) → IsTaken status before now → IsOk r
 told_where (Ok x) told status before now is done failed h = refl
 told_where (Err e) told status before now is done failed (inl ok) = absurd (false≢true (sym is ∙ done ok))
 told_where (Err e) told status before now is done failed (inr none) = absurd (none failed)

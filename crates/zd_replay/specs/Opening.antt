@@ -1,27 +1,28 @@
 -- What opening finds by the first set of metadata alone.
-use Rattle.std.specs.Prelude.{◌≡◌, ◌≢◌, ℕ, ◌<◌, ◌/◌, ◌%◌, ◌+◌, ◌*◌, ◌≤◌, List, [], Option, Some, None, Result, Err}
+use Rattle.std.specs.Prelude.{◌≡◌, ◌≢◌, ℕ, ◌<◌, ◌/◌, ◌%◌, ◌+◌, ◌≤◌, List, [], Option, Some, None, Result, Err}
 use Rattle.std.specs.Option.{option_map_or}
 use Rattle.zd_base.specs.Geometry.{Shape}
 use Rattle.zd_base.specs.Layout.{Fits, set_zones}
 use Rattle.zd_model.specs.Image.{Image, set_block}
 use Rattle.zd_model.specs.Tables.{entry_at}
-use Rattle.zd_model.specs.Volume.{Chosen, good_super, content}
+use Rattle.zd_model.specs.Volume.{Chosen, good_super, first_set, content}
 use Rattle.zd_model.specs.declared.metadata.MapEntry.{MapEntry}
 use Rattle.zd_model.specs.declared.metadata.Super.{Super}
 use Rattle.zd_model.specs.declared.texts.NoVolume.{NoVolume}
 use Rattle.zd_model.specs.declared.texts.NoVolume.TheVariants.{NoSuperBlock, Layout}
 use Rattle.zd_base.specs.Faults.{Rose}
-use Rattle.zd_replay.specs.declared.tables.OpenFault.{OpenFault}
-use Rattle.zd_replay.specs.declared.tables.OpenFault.TheVariants.{Device, NoVolume as Refused, NotBuilt, Memory}
+use Rattle.zd_replay.specs.declared.opening.OpenFault.{OpenFault}
+use Rattle.zd_replay.specs.declared.opening.OpenFault.TheVariants.{Device, NoVolume as Refused, NotBuilt, Memory}
 
 -- the first set, with this head
-abbrev pub first_set : Image → Super → Chosen
-first_set image head = record { set = 0; first = 0; other = set_zones image.geometry head.layout; head = head }
+abbrev pub front_set : Image → Super → Chosen
+front_set image head = first_set (set_zones image.geometry head.layout) head
 
 -- the sectors that are served by the tables of the first set; none where its super block isn't good
 abbrev pub base_of : Image → List (List ℕ)
-base_of image = option_map_or (λ head. content image (first_set image head)) (good_super image 0) []
+base_of image = option_map_or (λ head. content image (front_set image head)) (good_super image 0) []
 
+-- no zone and no buffer
 abbrev pub unmapped : MapEntry
 unmapped = record { zone = None; buffer = None }
 
@@ -36,7 +37,8 @@ first_entry image chunk = entry_at (set_block image 0 (1 + chunk / 512)) (chunk 
 
 -- none of these chunks was ever written
 abbrev pub AreUnmapped : Image → ℕ → ℕ → Type 0
-AreUnmapped image from end = (chunk : ℕ) → from ≤ chunk → chunk < end → first_entry image chunk ≡ unmapped
+AreUnmapped image from end = (chunk : ℕ) →
+    from ≤ chunk → chunk < end → first_entry image chunk ≡ unmapped
 
 -- this one was
 pub record IsMapped (image : Image) (end chunk : ℕ) : Type 0 where
@@ -65,7 +67,8 @@ pub record IsOpened (g : Shape) (head : Super) (image : Image) : Type 0 where
 
 -- volumes that somebody wrote
 abbrev pub IsWritten : Image → Type 0
-IsWritten image = (head : Super) × (chunk : ℕ) × HasFirstSet image head × IsMapped image head.layout.chunks chunk
+IsWritten image = (head : Super) × (chunk : ℕ) ×
+    HasFirstSet image head × IsMapped image head.layout.chunks chunk
 
 -- why a disk isn't opened, where it tells what it reads as
 abbrev pub Explains : OpenFault → Image → Type 0

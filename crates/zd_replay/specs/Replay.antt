@@ -1,8 +1,7 @@
 -- What a run is promised to report.
-use Rattle.std.specs.Prelude.{◌≡◌, ◌⊎◌, ℕ, ◌+◌, ◌-◌, ◌*◌, ◌/◌, ◌^◌, ◌<◌, ◌≤◌, Bool, true, false, ◌==◌, IsTrue, Option, Some, List, [], ◌∷◌, ◌++◌, length, map, take, count_by}
+use Rattle.std.specs.Prelude.{◌≡◌, ◌⊎◌, ℕ, ◌+◌, ◌-◌, ◌/◌, ◌^◌, ◌<◌, ◌≤◌, Bool, true, false, ◌==◌, IsTrue, Option, Some, List, [], ◌∷◌, ◌++◌, length, map, count_by}
 use Rattle.std.specs.List.{list_any}
 use Rattle.zd_base.specs.Faults.{Rose}
-use Rattle.zd_base.specs.Geometry.{Shape}
 use Rattle.zd_base.specs.declared.numbers.Why.TheVariants as whys
 use Rattle.zd_model.specs.Image.{Image}
 use Rattle.zd_model.specs.Plain.{Answer}
@@ -10,17 +9,18 @@ use Rattle.zd_model.specs.Plain.Answer.{Got, Done, Range, Fault}
 use Rattle.zd_model.specs.Pieces.{pieces_of}
 use Rattle.zd_model.specs.History.{HistoryEntry, IsLegal, IsOrdered, mark_of_entry, mark_of_piece, marks_of_caller}
 use Rattle.zd_model.specs.Report.{output, status_of}
+use Rattle.zd_model.specs.Script.{Refuses}
 use Rattle.zd_model.specs.Volume.{good_super}
 use Rattle.zd_model.specs.declared.requests.Request.{Request}
 use Rattle.zd_model.specs.declared.requests.Ending.TheVariants as endings
 use Rattle.zd_model.specs.declared.texts.Outcome.{Outcome}
 use Rattle.zd_model.specs.declared.texts.Outcome.TheVariants as outcomes
 use Rattle.zd_replay.specs.Words.{is_command}
-use Rattle.zd_replay.specs.declared.script.ScriptFault.{ScriptFault}
-use Rattle.zd_replay.specs.declared.script.ScriptFault.TheVariants as scripts
-use Rattle.zd_replay.specs.declared.tables.OpenFault.{OpenFault}
-use Rattle.zd_replay.specs.declared.tables.OpenFault.TheVariants as opens
-use Rattle.zd_replay.specs.Reads.{IsScriptOfReads, IsNoScriptOfReads}
+use Rattle.zd_script.specs.declared.fault.ScriptFault.{ScriptFault}
+use Rattle.zd_script.specs.declared.fault.ScriptFault.TheVariants as scripts
+use Rattle.zd_replay.specs.declared.opening.OpenFault.{OpenFault}
+use Rattle.zd_replay.specs.declared.opening.OpenFault.TheVariants as opens
+use Rattle.zd_replay.specs.Reads.{IsScriptOfReads, IsOtherScript}
 use Rattle.zd_replay.specs.Opening.{Opens, IsWritten, RefusesHead, base_of}
 
 -- the words are a command
@@ -36,8 +36,11 @@ IsRunnable bytes = (plan : List Request) × IsScriptOfReads bytes plan
 abbrev pub Ends : List ℕ → Image → Outcome → Type 0
 Ends bytes image outcomes.Usage = ⊥
 Ends bytes image outcomes.Source = Unit {0}
-Ends bytes image outcomes.NotBuilt = IsNoScriptOfReads bytes ⊎ (IsRunnable bytes × IsWritten image)
-Ends bytes image (outcomes.NoVolume kind) = IsRunnable bytes × RefusesHead kind image.geometry (good_super image 0)
+Ends bytes image (outcomes.BadScript line why) = Refuses bytes line why
+Ends bytes image outcomes.NotBuilt =
+    ((plan : List Request) × IsOtherScript bytes plan) ⊎ (IsRunnable bytes × IsWritten image)
+Ends bytes image (outcomes.NoVolume kind) =
+    IsRunnable bytes × RefusesHead kind image.geometry (good_super image 0)
 Ends bytes image (outcomes.Ended endings.Ok) = IsRunnable bytes × Opens image
 Ends bytes image (outcomes.Ended (endings.Stopped whys.Device)) = IsRunnable bytes
 Ends bytes image (outcomes.Ended (endings.Stopped whys.Memory)) = Unit {0}
@@ -45,11 +48,14 @@ Ends bytes image (outcomes.Ended (endings.Stopped whys.Generation)) = ⊥
 
 -- the words decide first
 abbrev pub Comes : List (List ℕ) → List ℕ → Image → Outcome → Type 0
-Comes words bytes image outcome = ((IsCommand words → ⊥) × (outcome ≡ outcomes.Usage)) ⊎ (IsCommand words × Ends bytes image outcome)
+Comes words bytes image outcome =
+    ((IsCommand words → ⊥) × (outcome ≡ outcomes.Usage))
+    ⊎ (IsCommand words × Ends bytes image outcome)
 
 -- the outcomes that words, script and image decide, and no count of faults and no memory
 abbrev pub IsDecided : Outcome → Type 0
 IsDecided outcomes.Usage = Unit {0}
+IsDecided (outcomes.BadScript line why) = Unit {0}
 IsDecided outcomes.NotBuilt = Unit {0}
 IsDecided (outcomes.NoVolume kind) = Unit {0}
 IsDecided (outcomes.Ended endings.Ok) = Unit {0}
@@ -62,15 +68,20 @@ OneOutcome = (words : List (List ℕ)) (bytes : List ℕ) (image : Image) (o p :
 
 -- the status is that of the outcome; only where all was done may it be 6 instead
 abbrev pub HasStatus : Outcome → ℕ → Type 0
-HasStatus outcome status = (status ≡ status_of outcome) ⊎ ((status ≡ 6) × (outcome ≡ outcomes.Ended endings.Ok))
+HasStatus outcome status =
+    (status ≡ status_of outcome) ⊎ ((status ≡ 6) × (outcome ≡ outcomes.Ended endings.Ok))
 
 -- the statuses that a run can end with so far
 abbrev pub IsStatus : ℕ → Type 0
-IsStatus status = IsTrue (list_any (λ s. s == status) (0 ∷ 1 ∷ 3 ∷ 4 ∷ 5 ∷ 6 ∷ 7 ∷ 11 ∷ []))
+IsStatus status = IsTrue (list_any (λ s. s == status) (0 ∷ 1 ∷ 2 ∷ 3 ∷ 4 ∷ 5 ∷ 6 ∷ 7 ∷ 11 ∷ []))
 
 -- those that come once the script is read
 abbrev pub IsSessionStatus : ℕ → Type 0
 IsSessionStatus status = IsTrue (list_any (λ s. s == status) (0 ∷ 3 ∷ 4 ∷ 6 ∷ 7 ∷ 11 ∷ []))
+
+-- those of a script that can't be read
+abbrev pub IsRefusalStatus : ℕ → Type 0
+IsRefusalStatus status = IsTrue (list_any (λ s. s == status) (2 ∷ 5 ∷ 7 ∷ []))
 
 -- the sink took these bytes behind what it held, whole or a front of them
 pub record Takes (before : List ℕ) (after : Option (List ℕ)) (bytes : List ℕ) (whole : Type 0) : Type 0 where
@@ -91,7 +102,8 @@ IsTaken status before now = (status ≡ 0) ⊎ IsFaultless before now
 -- each caller's entries are all of its pieces
 abbrev pub IsWhole : ℕ → ℕ → List Request → List HistoryEntry → Type 0
 IsWhole z blocks plan history = (caller : ℕ) →
-    marks_of_caller caller (map mark_of_entry history) ≡ marks_of_caller caller (map mark_of_piece (pieces_of z blocks plan))
+    marks_of_caller caller (map mark_of_entry history)
+    ≡ marks_of_caller caller (map mark_of_piece (pieces_of z blocks plan))
 
 abbrev pub is_fault : Answer → Bool
 is_fault (Got bytes) = false
@@ -104,7 +116,8 @@ abbrev pub fault_count : List HistoryEntry → ℕ
 fault_count history = count_by (λ e. is_fault e.reply) history
 
 -- a history over the base of an image, in the order of a plan, with all its pieces where that is said
-pub record IsHistory (image : Image) (plan : List Request) (history : List HistoryEntry) (whole : Type 0) : Type 0 where
+pub record IsHistory
+    (image : Image) (plan : List Request) (history : List HistoryEntry) (whole : Type 0) : Type 0 where
   pub legal : IsLegal (base_of image) history
   pub ordered : IsOrdered image.geometry.zone_blocks (length (base_of image) / 8) plan history
   pub all : whole → IsWhole image.geometry.zone_blocks (length (base_of image) / 8) plan history
@@ -126,7 +139,9 @@ abbrev pub EndsBefore : List HistoryEntry → Outcome → Type 0
 EndsBefore history outcome = (history ≡ []) × (outcome ≡ outcomes.Ended endings.Ok → ⊥)
 
 -- there is a history and an outcome, and what the sink took is their text
-pub record Reports (words : List (List ℕ)) (bytes : List ℕ) (image : Image) (status faults now : ℕ) (before : List ℕ) (after : Option (List ℕ)) (whole : Type 0) : Type 0 where
+pub record Reports
+    (words : List (List ℕ)) (bytes : List ℕ) (image : Image) (status faults now : ℕ)
+    (before : List ℕ) (after : Option (List ℕ)) (whole : Type 0) : Type 0 where
   pub plan : List Request
   pub history : List HistoryEntry
   pub outcome : Outcome
@@ -138,8 +153,10 @@ pub record Reports (words : List (List ℕ)) (bytes : List ℕ) (image : Image) 
   pub told : Takes before after (output history outcome) whole
 
 -- where the disk tells its zones, the source its bytes and the sink what it took
-abbrev pub WhereAllTold : Option Image → Option (List ℕ) → Option (List ℕ) → (Image → List ℕ → List ℕ → Type 0) → Type 0
-WhereAllTold zones left held P = (image : Image) (bytes before : List ℕ) → zones ≡ Some image → left ≡ Some bytes → held ≡ Some before → P image bytes before
+abbrev pub WhereAllTold : Option Image → Option (List ℕ) → Option (List ℕ) →
+    (Image → List ℕ → List ℕ → Type 0) → Type 0
+WhereAllTold zones left held P = (image : Image) (bytes before : List ℕ) →
+    zones ≡ Some image → left ≡ Some bytes → held ≡ Some before → P image bytes before
 
 -- a plan that is written in some script that can be run
 abbrev pub IsReadPlan : List Request → Type 0
@@ -150,7 +167,9 @@ abbrev pub no_memory : Outcome
 no_memory = outcomes.Ended (endings.Stopped whys.Memory)
 
 -- what was told: this history and outcome, or none where no memory was found for their text
-pub record Tells (history : List HistoryEntry) (outcome : Outcome) (status : ℕ) (before : List ℕ) (after : Option (List ℕ)) (whole : Type 0) : Type 0 where
+pub record Tells
+    (history : List HistoryEntry) (outcome : Outcome) (status : ℕ)
+    (before : List ℕ) (after : Option (List ℕ)) (whole : Type 0) : Type 0 where
   pub entries : List HistoryEntry
   pub ending : Outcome
   pub which : ((entries ≡ history) × (ending ≡ outcome)) ⊎ ((entries ≡ []) × (ending ≡ no_memory))
@@ -159,8 +178,8 @@ pub record Tells (history : List HistoryEntry) (outcome : Outcome) (status : ℕ
 
 -- how a run ends whose script can't be run
 abbrev pub script_outcome : ScriptFault → Outcome
+script_outcome (scripts.Bad line why) = outcomes.BadScript line why
 script_outcome scripts.Source = outcomes.Source
-script_outcome scripts.NotReads = outcomes.NotBuilt
 script_outcome scripts.Memory = no_memory
 
 -- how a run ends whose disk can't be opened

@@ -1,5 +1,6 @@
 -- Which words are a command.
-use Rattle.std.specs.Prelude.{◌≡◌, if◌then◌else◌, slice_get, Option, None, ℕ, Bool, true, false, not, ◌&&◌, ◌==◌, IsTrue, List, [], ◌∷◌}
+use Rattle.std.specs.Prelude.{◌≡◌, ◌==◌, ◌&&◌, not, if◌then◌else◌, ℕ, Bool, false, Option, None}
+use Rattle.std.specs.Prelude.{List, [], ◌∷◌, slice_get}
 
 -- it begins with a minus, and isn't a minus alone
 abbrev pub is_option : List ℕ → Bool
@@ -17,4 +18,5 @@ is_command (image ∷ script ∷ other ∷ others) = false
 -- the words of a command that stand for the image and the script; none where they are no command
 abbrev pub NamesFiles : List (List ℕ) → Option (List ℕ) → Option (List ℕ) → Type 0
 NamesFiles words image script =
-    (image ≡ (if is_command words then slice_get words 0 else None)) × (script ≡ (if is_command words then slice_get words 1 else None))
+    (image ≡ (if is_command words then slice_get words 0 else None))
+    × (script ≡ (if is_command words then slice_get words 1 else None))

@@ -1,20 +1,18 @@
 //! A run by one caller, from words and bytes to the report.
 
 ghost use Rattle.std.specs.Prelude.{◌≡◌, ◌⊎◌, ◌↔◌, ◌≤◌, ◌==◌, ℕ, List, [], ◌∷◌, map, string_bytes, IfOk, Err, IsTrue};
-ghost use Rattle.std.specs.List.{AllByRecursion, list_any};
 ghost use Rattle.zd_base.specs.Faults.{Rose};
 ghost use Rattle.zd_base.specs.Layout.{Fits};
 ghost use Rattle.zd_disk.specs.Told.{WhereTold};
 ghost use Rattle.zd_model.specs.Image.{Image};
 ghost use Rattle.zd_replay.specs.Opening.{IsOpened, Opens};
 ghost use Rattle.zd_replay.specs.Reads.{IsNoScriptOfReads, IsScriptOfReads};
-ghost use Rattle.zd_replay.specs.Replay.{IsCommand, IsRunnable, IsReadPlan, script_outcome, open_outcome, IsHistory, IsRight, IsFaultless, IsTaken, IsStatus, IsSessionStatus, Reports, WhereAllTold, fault_count, no_memory};
-ghost use Rattle.zd_replay.specs.Run.{AnswersZeros};
+ghost use Rattle.zd_replay.specs.Replay.{IsCommand, IsRunnable, IsReadPlan, script_outcome, open_outcome, IsHistory, IsRight, IsFaultless, IsTaken, IsStatus, IsSessionStatus, IsRefusalStatus, Tells, Reports, WhereAllTold, fault_count, no_memory};
 
+use crate::opening::{OpenFault, Opened, open};
 use crate::report::{tell_all, tell_alone};
 use crate::run::run;
-use crate::script::{ScriptFault, plan_of, read_all};
-use crate::tables::{OpenFault, Opened, open};
+use crate::scripts::{has_reads_alone, read_plan};
 use crate::words::is_command;
 use std::alloc::Global;
 use zd_base::{Status, Why};
@@ -22,30 +20,29 @@ use zd_disk::ZonedDisk;
 use zd_model::Outcome;
 use zd_plain::{Ending, History, Plan, pieces};
 use zd_ports::{Sink, Source};
-
-/// Reads a script, and its plan.
-fn read_plan<S: Source>(alloc: Global, script: &mut S) -> Result<Plan, ScriptFault>
-    ensures plan { IfOk result IsReadPlan }
-    ensures ok { IfOk result (λ plan. WhereTold (S.left script.old) (λ bytes. IsScriptOfReads bytes plan)) }
-    ensures not_reads { result ≡ Err ScriptFault.NotReads →
-        WhereTold (S.left script.old) IsNoScriptOfReads }
-    ensures source { result ≡ Err ScriptFault.Source → Rose (S.faults script.old) (S.faults script.new) }
-    ensures later { S.faults script.old ≤ S.faults script.new }
-{
-    let bytes = read_all(alloc, script)?;
-    let requests = plan_of(alloc, &bytes)?;
-    Ok(Plan::from(requests))
-}
+use zd_script::ScriptFault;
 
 /// How a run ends whose script can't be run.
 fn script_outcome(fault: ScriptFault) -> Outcome
     ensures { result ≡ script_outcome fault }
 {
     match fault {
+        ScriptFault::Bad { line, why } => Outcome::BadScript { line, why },
         ScriptFault::Source => Outcome::Source,
-        ScriptFault::NotReads => Outcome::NotBuilt,
         ScriptFault::Memory => Outcome::Ended(Ending::Stopped(Why::Memory)),
     }
+}
+
+/// Tells why a script can't be run.
+fn refuse<K: Sink>(alloc: Global, out: &mut K, fault: ScriptFault) -> Status
+    ensures told { WhereTold (K.held out.old) (λ before.
+        Tells [] (script_outcome fault) result.0 before
+        (K.held out.new) (IsTaken result.0 (K.faults out.old) (K.faults out.new))) }
+    ensures statuses { IsRefusalStatus result.0 }
+    ensures source { result.0 ≡ 5 → fault ≡ ScriptFault.Source }
+    ensures later { K.faults out.old ≤ K.faults out.new }
+{
+    tell_all(alloc, out, &History::new(alloc), script_outcome(fault))
 }
 
 /// How a run ends whose disk can't be opened.
@@ -66,7 +63,6 @@ fn run_plan(alloc: Global, opened: &Opened, plan: &Plan) -> (History, Ending)
     requires fits { Fits opened.now.geometry opened.now.head.layout }
     ensures entries { (image : Image) → IsOpened opened.now.geometry opened.now.head image →
         IsHistory image plan.now result.0.items (result.1 ≡ Ending.Ok) }
-    ensures zeros { AllByRecursion (λ e. AnswersZeros e.what e.reply) result.0.items }
     ensures counted { fault_count result.0.items ≡ 0 }
     ensures ending { (result.1 ≡ Ending.Ok) ⊎ (result.1 ≡ Ending.Stopped Why.Memory) }
 {
@@ -103,8 +99,8 @@ fn session<D: ZonedDisk, K: Sink>(alloc: Global, disk: &mut D, plan: &Plan, out:
 /// Runs the script of one caller over a disk, and writes the report. It hands the disk back.
 ///
 /// So far it answers reads by caller 0 of a volume that nobody wrote, by the first set of metadata.
-/// The status is 0 where all was done, 1 where the words are no command, 3 where the image is no
-/// volume, 4 where the disk failed in opening, 5 where the source failed, 6 where the sink failed and
+/// The status is 0 where all was done, 1 where the words are no command, 2 where the bytes are no script,
+/// 3 where the image is no volume, 4 where the disk failed in opening, 5 where the source failed, 6 where the sink failed and
 /// nothing else was wrong, 7 where no memory was found, and 11 where the run needs what isn't built.
 pub fn replay_alone<D: ZonedDisk, S: Source, K: Sink>(
     alloc: Global,
@@ -144,8 +140,11 @@ pub fn replay_alone<D: ZonedDisk, S: Source, K: Sink>(
     }
     let plan = match read_plan(alloc, script) {
         Ok(plan) => plan,
-        Err(fault) => return (tell_alone(out, script_outcome(fault)), disk),
+        Err(fault) => return (refuse(alloc, out, fault), disk),
     };
+    if !has_reads_alone(&plan) {
+        return (tell_alone(out, Outcome::NotBuilt), disk);
+    }
     let status = session(alloc, &mut disk, &plan, out);
     (status, disk)
 }

@@ -2,12 +2,14 @@
 #![tactic(auto)]
 
 mod alone;
+mod blocks;
+mod head;
 mod laws;
-mod number;
+mod map;
+mod opening;
 mod report;
 mod run;
-mod script;
-mod tables;
+mod scripts;
 mod words;
 
 pub use alone::replay_alone;

@@ -1,87 +1,18 @@
-//! The report of a run over a volume that nobody wrote.
+//! Telling a report, and the exit status of a run.
 
-ghost use Rattle.std.specs.Prelude.{◌≡◌, ◌⊎◌, ◌+◌, ◌*◌, ◌<◌, ◌≤◌, ◌++◌, ◌∷◌, [], string_bytes, OnOk, IfOk, IsOk, length, replicate, true, false};
-ghost use Rattle.std.specs.List.{AllByRecursion, flat_map};
-ghost use Rattle.zd_model.specs.Entries.{answer_of, entry_of};
-ghost use Rattle.zd_model.specs.Report.{entry_text, reply_text, outcome_text, status_of, output};
-ghost use Rattle.zd_model.specs.Text.{numeral};
+ghost use Rattle.std.specs.Prelude.{◌≡◌, ◌⊎◌, ◌≤◌, [], IsOk, true, false};
 ghost use Rattle.zd_base.specs.Faults.{HasCause, Rose};
 ghost use Rattle.zd_disk.specs.Told.{WhereTold};
-ghost use Rattle.zd_replay.specs.Run.{AnswersZeros};
+ghost use Rattle.zd_model.specs.Report.{status_of, output};
 ghost use Rattle.zd_replay.specs.Replay.{Takes, Tells, HasStatus, IsTaken, no_memory};
+ghost use Rattle.zd_report.specs.Fixed.{IsFixed};
 
-use std::alloc::{AllocError, Global};
-use zd_base::{Failed, SECTOR, Status, Why};
-use zd_model::{NoVolume, Outcome};
-use zd_plain::{Ending, Entry, History, Reply, What, block_count, first_block};
+use std::alloc::Global;
+use zd_base::{Failed, Status, Why};
+use zd_model::Outcome;
+use zd_plain::{Ending, History};
 use zd_ports::Sink;
-
-/// Appends a number, without leading zeros.
-fn add_number(text: &mut String, n: u64) -> Result<(), AllocError>
-    ensures { OnOk result (string_bytes text.new ≡ string_bytes text.old ++ numeral n) }
-{
-    write!(text, "{n}")
-}
-
-/// Appends a number and a space.
-fn add_field(text: &mut String, n: u64) -> Result<(), AllocError>
-    ensures { OnOk result (string_bytes text.new ≡ string_bytes text.old ++ (numeral n ++ 32 ∷ [])) }
-{
-    add_number(text, n)?;
-    text.push_str(" ")
-}
-
-/// Appends the reply of a read that got zeros, or ended past the device.
-fn add_reply(text: &mut String, what: What, reply: &Reply) -> Result<(), AllocError>
-    requires zeros { AnswersZeros what (answer_of reply.now) }
-    ensures { OnOk result (string_bytes text.new ≡ string_bytes text.old ++ reply_text what (answer_of reply.now)) }
-{
-    match reply {
-        Reply::Got(bytes) => {
-            text.push_str("data z")?;
-            add_number(text, (bytes.len() / SECTOR) as u64)?;
-            Ok(())
-        }
-        Reply::Done => text.push_str("done"),
-        Reply::Range => text.push_str("range"),
-        Reply::Fault => text.push_str("fault"),
-    }
-}
-
-/// Appends the line of a read that got zeros, or ended past the device.
-fn add_line(text: &mut String, entry: &Entry) -> Result<(), AllocError>
-    requires zeros { AnswersZeros entry.now.what (answer_of entry.now.reply) }
-    ensures { OnOk result (string_bytes text.new ≡ string_bytes text.old ++ entry_text (entry_of entry.now)) }
-{
-    add_field(text, u64::from(entry.caller))?;
-    add_field(text, u64::from(entry.request))?;
-    add_field(text, u64::from(entry.piece))?;
-    text.push_str("r ")?;
-    add_field(text, first_block(entry.what))?;
-    add_field(text, u64::from(block_count(entry.what)))?;
-    add_reply(text, entry.what, &entry.reply)?;
-    text.push_str(" @")?;
-    add_number(text, entry.at)?;
-    text.push_str("\n")?;
-    Ok(())
-}
-
-/// The last line of an output.
-fn outcome_line(outcome: Outcome) -> &'static str
-    ensures { result.now ≡ outcome_text outcome }
-{
-    match outcome {
-        Outcome::Ended(Ending::Ok) => "end 0 ok\n",
-        Outcome::Usage => "end 1 usage\n",
-        Outcome::NoVolume(NoVolume::NoSuperBlock) => "end 3 volume no-super-block\n",
-        Outcome::NoVolume(NoVolume::Layout) => "end 3 volume layout\n",
-        Outcome::Ended(Ending::Stopped(Why::Device)) => "end 4 device\n",
-        Outcome::Source => "end 5 source\n",
-        Outcome::Ended(Ending::Stopped(Why::Memory)) => "end 7 memory\n",
-        Outcome::Ended(Ending::Stopped(Why::Generation)) => "end 8 generation\n",
-        Outcome::NotBuilt => "end 11 not-built\n",
-    }
-}
+use zd_report::{fixed_line, output_text};
 
 /// The exit status of an outcome.
 fn status_of(outcome: Outcome) -> Status
@@ -90,6 +21,7 @@ fn status_of(outcome: Outcome) -> Status
     Status(match outcome {
         Outcome::Ended(Ending::Ok) => 0,
         Outcome::Usage => 1,
+        Outcome::BadScript { .. } => 2,
         Outcome::NoVolume(_) => 3,
         Outcome::Ended(Ending::Stopped(Why::Device)) => 4,
         Outcome::Source => 5,
@@ -97,19 +29,6 @@ fn status_of(outcome: Outcome) -> Status
         Outcome::Ended(Ending::Stopped(Why::Generation)) => 8,
         Outcome::NotBuilt => 11,
     })
-}
-
-/// All that a run prints: the lines of its entries, and that of its outcome.
-fn text_of(alloc: Global, history: &History, outcome: Outcome) -> Result<String, AllocError>
-    requires zeros { AllByRecursion (λ e. AnswersZeros e.what e.reply) history.now.items }
-    ensures { IfOk result (λ text. string_bytes text ≡ output history.now.items outcome) }
-{
-    let mut text = String::new(alloc);
-    for i in 0..history.len() {
-        add_line(&mut text, history.get(i))?;
-    }
-    text.push_str(outcome_line(outcome))?;
-    Ok(text)
 }
 
 /// Hands out all bytes, in whatever pieces they are taken.
@@ -142,38 +61,38 @@ fn status_after(outcome: Outcome, told: bool) -> Status
 }
 
 /// Hands out an output, and answers the status.
-fn tell<K: Sink>(out: &mut K, text: &str, outcome: Outcome) -> Status
+fn tell<K: Sink>(out: &mut K, text: &[u8], outcome: Outcome) -> Status
     ensures answers { HasStatus outcome result.0 }
     ensures taken { WhereTold (K.held out.old) (λ before. Takes before (K.held out.new) text.now
         (IsTaken result.0 (K.faults out.old) (K.faults out.new))) }
     ensures sink { result.0 ≡ 6 → Rose (K.faults out.old) (K.faults out.new) }
     ensures later { K.faults out.old ≤ K.faults out.new }
 {
-    let told = write_all(out, text.as_bytes()).is_ok();
+    let told = write_all(out, text).is_ok();
     status_after(outcome, told)
 }
 
 /// Tells an outcome before which nothing was entered.
 pub fn tell_alone<K: Sink>(out: &mut K, outcome: Outcome) -> Status
+    requires { IsFixed outcome }
     ensures taken { WhereTold (K.held out.old) (λ before. Takes before (K.held out.new)
         (output [] outcome) (IsTaken result.0 (K.faults out.old) (K.faults out.new))) }
     ensures answers { HasStatus outcome result.0 }
     ensures sink { result.0 ≡ 6 → Rose (K.faults out.old) (K.faults out.new) }
     ensures later { K.faults out.old ≤ K.faults out.new }
 {
-    tell(out, outcome_line(outcome), outcome)
+    tell(out, fixed_line(outcome).as_bytes(), outcome)
 }
 
 /// Tells a history and how its run ended. Where no memory is found for the text, that alone is told.
 pub fn tell_all<K: Sink>(alloc: Global, out: &mut K, history: &History, outcome: Outcome) -> Status
-    requires zeros { AllByRecursion (λ e. AnswersZeros e.what e.reply) history.now.items }
     ensures told { WhereTold (K.held out.old) (λ before. Tells history.now.items outcome result.0 before
         (K.held out.new) (IsTaken result.0 (K.faults out.old) (K.faults out.new))) }
     ensures answers { HasStatus outcome result.0 ⊎ HasStatus no_memory result.0 }
     ensures sink { result.0 ≡ 6 → Rose (K.faults out.old) (K.faults out.new) }
     ensures later { K.faults out.old ≤ K.faults out.new }
 {
-    match text_of(alloc, history, outcome) {
+    match output_text(alloc, history, outcome) {
         Ok(text) => tell(out, &text, outcome),
         Err(_) => tell_alone(out, Outcome::Ended(Ending::Stopped(Why::Memory))),
     }

@@ -1,8 +1,7 @@
 //! The run of a plan over a volume that nobody wrote.
 
-ghost use Rattle.std.specs.Prelude.{◌≡◌, ◌⊎◌, length, map, take, replicate, ◌*◌, ◌+◌, ◌<◌, IfOk};
+ghost use Rattle.std.specs.Prelude.{◌≡◌, ◌⊎◌, length, map, take, replicate, ◌*◌, IfOk};
 ghost use Rattle.zd_model.specs.Entries.{entry_of};
-ghost use Rattle.zd_model.specs.Pieces.{block_count};
 ghost use Rattle.zd_replay.specs.Run.{zeros_for};
 
 use std::alloc::Global;

@@ -1,12 +1,13 @@
 //! The words of a command.
 
-ghost use Rattle.std.specs.Prelude.{◌≡◌, ◌/◌, map, string_bytes, IfOk, Some, None, true, false, not, slice_get, MatchBool, option_map};
+ghost use Rattle.std.specs.Prelude.{◌≡◌, map, string_bytes, IfOk, None};
 ghost use Rattle.std.specs.Option.{option_copied};
 ghost use Rattle.zd_replay.specs.Words.{is_option, is_command, NamesFiles};
 
 use zd_base::Memory;
 use zd_ports::Paths;
 
+/// Whether a word is an option: it begins with a minus, and isn't a minus alone.
 fn is_option(word: &str) -> bool
     ensures { result ≡ is_option word.now }
 {

@@ -1,6 +1,4 @@
 use Rattle.std.proofs.Common.{◌∙◌, sym, subst, inr}
-use Rattle.zd_model.specs.declared.requests.Ending.{Ending}
-use Rattle.zd_model.specs.declared.texts.Outcome.{Outcome}
 use Rattle.zd_model.specs.declared.texts.Outcome.TheVariants as outcomes
 use Rattle.zd_replay.specs.Replay.{Ends}
 use Rattle.zd_replay.proofs.ReportLaws.{reports, reports_alone, ends_unopened, unopened, ends_run, history_of}
@@ -10,8 +8,10 @@ pub returns-in-Err-clause-report : goal.returns-in-Err-clause-report
 returns-in-Err-clause-report g c words bytes right script image z before held =
     let is = c.open_outcome.ensures in
     let ends = subst (Ends bytes image) (sym is) (ends_unopened c.in-Err.fault bytes image (c.args.plan.now, script) (c.in-Err.ensures.err image z)) in
-    reports_alone words bytes image c.open_outcome.result c.tell_alone.result.0 _ _ before (g.K.Sink.held c.tell_alone.new.out) _
-    (inr (right, ends)) (λ e. unopened c.in-Err.fault (sym is ∙ e)) c.open.ensures.cause.later c.tell_alone.ensures.answers (c.tell_alone.ensures.taken before held)
+    reports_alone words bytes image c.open_outcome.result c.tell_alone.result.0 _ _ before
+    (g.K.Sink.held c.tell_alone.new.out) _
+    (inr (right, ends)) (λ e. unopened c.in-Err.fault (sym is ∙ e)) c.open.ensures.cause.later
+    c.tell_alone.ensures.answers (c.tell_alone.ensures.taken before held)
 
 pub returns-clause-report : goal.returns-clause-report
 returns-clause-report g c words bytes right script image z before held =
@@ -19,6 +19,9 @@ returns-clause-report g c words bytes right script image z before held =
     let ending = c.run_plan-history.result.1 in
     let history = c.run_plan-history.result.0.items in
     let ran = c.run_plan-history.ensures in
-    reports words bytes image c.args.plan.now history (outcomes.Ended ending) c.tell_all.result.0 _ _ before (g.K.Sink.held c.tell_all.new.out) _
-    right script (ends_run ending bytes image ran.ending (c.args.plan.now, script) (c.in-Ok.opened.head, opened.set, opened.unmapped))
-    (history_of image c.args.plan.now history ending (ran.entries image opened)) ran.counted c.open.ensures.cause.later (c.tell_all.ensures.told before held)
+    reports words bytes image c.args.plan.now history (outcomes.Ended ending) c.tell_all.result.0 _ _ before
+    (g.K.Sink.held c.tell_all.new.out) _
+    right script
+    (ends_run ending bytes image ran.ending (c.args.plan.now, script) (c.in-Ok.opened.head, opened.set, opened.unmapped))
+    (history_of image c.args.plan.now history ending (ran.entries image opened)) ran.counted
+    c.open.ensures.cause.later (c.tell_all.ensures.told before held)

@@ -1,6 +1,4 @@
-use Rattle.std.proofs.Common.{ℕ, List, subst}
 use Rattle.std.specs.Prelude.{IsOk}
-use Rattle.zd_replay.specs.Replay.{Takes}
 use Rattle.zd_replay.proofs.SinkLaws.{taken_where, told_where}
 use Rattle.zd_replay.proofs.report.tell.Goals as goal
 
@@ -10,4 +8,4 @@ returns-clause-taken g c before held =
     let wrote = c.write_all.result in
     taken_where before after c.args.text.now (IsOk wrote) _
     (told_where wrote c.is_ok-told.result c.status_after.result.0 _ _ c.is_ok-told.ensures.value c.status_after.ensures.done c.write_all.ensures.cause.failed)
-    (subst (λ (bytes : List ℕ). Takes before after bytes (IsOk wrote)) c.as_bytes.ensures.value (c.write_all.ensures.taken before held))
+    (c.write_all.ensures.taken before held)

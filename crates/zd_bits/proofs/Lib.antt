@@ -1,0 +1,4 @@
+pub mod RangeLaws
+pub mod MaskLaws
+pub mod CountLaws
+pub mod WordLaws

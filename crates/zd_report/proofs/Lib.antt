@@ -1,0 +1,6 @@
+pub mod Items
+pub mod Patterns
+pub mod LineText
+pub mod Found
+pub mod Ok
+pub mod Told

@@ -1,0 +1,80 @@
+//! The lines of entries.
+
+ghost use Rattle.std.specs.Prelude.{◌≡◌, ◌++◌, ◌∷◌, [], string_bytes, OnOk, flat_map};
+ghost use Rattle.zd_model.specs.Entries.{answer_of, entry_of};
+ghost use Rattle.zd_model.specs.Report.{entry_text, reply_text};
+ghost use Rattle.zd_model.specs.Text.{numeral};
+ghost use Rattle.zd_report.specs.Fields.{what_text};
+
+use crate::numbers::{add_field, add_number};
+use crate::rows::add_items;
+use std::alloc::AllocError;
+use zd_plain::{Entry, History, Reply, What, first_block};
+
+/// Appends a letter, and the blocks behind it.
+fn add_blocks(text: &mut String, letter: &str, block: u64, count: u32) -> Result<(), AllocError>
+    ensures { OnOk result (string_bytes text.new ≡ string_bytes text.old
+        ++ (letter.now ++ 32 ∷ (numeral block ++ 32 ∷ (numeral count ++ 32 ∷ [])))) }
+{
+    text.push_str(letter)?;
+    text.push_str(" ")?;
+    add_field(text, block)?;
+    add_field(text, u64::from(count))
+}
+
+/// Appends what was asked for: a letter, the blocks and the seed, a space behind each.
+fn add_what(text: &mut String, what: What) -> Result<(), AllocError>
+    ensures { OnOk result (string_bytes text.new ≡ string_bytes text.old ++ what_text what) }
+{
+    match what {
+        What::Read { block, count } => add_blocks(text, "r", block, count),
+        What::Write { block, count, seed } => {
+            add_blocks(text, "w", block, count)?;
+            add_field(text, u64::from(seed))
+        }
+        What::Discard { block, count } => add_blocks(text, "d", block, count),
+        What::Flush => text.push_str("f "),
+    }
+}
+
+/// Appends what was answered.
+fn add_reply(text: &mut String, what: What, reply: &Reply) -> Result<(), AllocError>
+    ensures { OnOk result (string_bytes text.new
+        ≡ string_bytes text.old ++ reply_text what (answer_of reply.now)) }
+{
+    match reply {
+        Reply::Got(bytes) => {
+            text.push_str("data ")?;
+            add_items(text, first_block(what), bytes.bytes())
+        }
+        Reply::Done => text.push_str("done"),
+        Reply::Range => text.push_str("range"),
+        Reply::Fault => text.push_str("fault"),
+    }
+}
+
+/// Appends the line of an entry.
+fn add_line(text: &mut String, entry: &Entry) -> Result<(), AllocError>
+    ensures { OnOk result (string_bytes text.new
+        ≡ string_bytes text.old ++ entry_text (entry_of entry.now)) }
+{
+    add_field(text, u64::from(entry.caller))?;
+    add_field(text, u64::from(entry.request))?;
+    add_field(text, u64::from(entry.piece))?;
+    add_what(text, entry.what)?;
+    add_reply(text, entry.what, &entry.reply)?;
+    text.push_str(" @")?;
+    add_number(text, entry.at)?;
+    text.push_str("\n")
+}
+
+/// Appends the lines of all entries.
+pub fn add_lines(text: &mut String, history: &History) -> Result<(), AllocError>
+    ensures { OnOk result (string_bytes text.new
+        ≡ string_bytes text.old ++ flat_map entry_text history.now.items) }
+{
+    for i in 0..history.len() {
+        add_line(text, history.get(i))?;
+    }
+    Ok(())
+}

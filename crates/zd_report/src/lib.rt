@@ -1,0 +1,16 @@
+//! Reports: the text that tells a history and how it ended.
+//!
+//! A report has a line for each entry, in their order, and a last line for the ending. Each line
+//! ends with a line feed; numbers have no leading zeros.
+#![tactic(auto)]
+
+mod endings;
+mod entries;
+mod numbers;
+mod reports;
+mod rows;
+#[cfg(test)]
+mod tests;
+
+pub use endings::{ending_line, fixed_line};
+pub use reports::{lines, output_text, text};

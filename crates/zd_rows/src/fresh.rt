@@ -1,0 +1,192 @@
+//! Volumes that the tests write block by block.
+
+ghost use Rattle.std.specs.Prelude.{◌+◌, ◌<◌, ◌≤◌, length};
+
+use std::process::Abort;
+use std::test::Fail;
+use zd_base::{Geometry, Kind, Layout, SECTOR, ZoneNo};
+use zd_disk::{Failed, ZonedDisk};
+use zd_memdisk::MemDisk;
+use zd_plain::pattern;
+use zd_super::crc32_le;
+
+/// No zone, in an entry of a map.
+pub const NONE: u32 = 0xFFFF_FFFF;
+
+/// The layout of the volume of the rows, on a disk of 6 conventional and 6 sequential zones of 16
+/// blocks. Its sets stand in zones 0 and 1.
+pub const SMALL: Layout = Layout {
+    meta_blocks: 14,
+    reserved: 2,
+    chunks: 8,
+    map_blocks: 1,
+    bitmap_blocks: 12,
+};
+
+/// The identifier 00000000-0000-4000-8000-000000000001.
+const VOLUME: [u8; 16] = [0, 0, 0, 0, 0, 0, 0x40, 0, 0x80, 0, 0, 0, 0, 0, 0, 1];
+
+/// The identifier of the volume's one device, 705d13ab-1a26-52ae-a1fa-3108df8326ab.
+const DEVICE: [u8; 16] = [
+    0x70, 0x5d, 0x13, 0xab, 0x1a, 0x26, 0x52, 0xae, 0xa1, 0xfa, 0x31, 0x08, 0xdf, 0x83, 0x26, 0xab,
+];
+
+/// Writes bytes into a block, from byte `at` on.
+fn write_at(block: &mut [u8; 4096], at: usize, bytes: &[u8])
+    requires { at + length bytes.now ≤ 4096 }
+{
+    block[at..at + bytes.len()].copy_from_slice(bytes);
+}
+
+/// A super block of generation 1, with its own number among the blocks of the disk and a right crc.
+pub fn super_block(layout: &Layout, own: u64) -> [u8; 4096] {
+    let mut block = [0; 4096];
+    write_at(&mut block, 0, &[0x44, 0x42, 0x5a, 0x44, 2, 0, 0, 0, 1]);
+    write_at(&mut block, 16, &own.to_le_bytes());
+    write_at(&mut block, 24, &layout.meta_blocks.to_le_bytes());
+    write_at(&mut block, 28, &layout.reserved.to_le_bytes());
+    write_at(&mut block, 32, &layout.chunks.to_le_bytes());
+    write_at(&mut block, 36, &layout.map_blocks.to_le_bytes());
+    write_at(&mut block, 40, &layout.bitmap_blocks.to_le_bytes());
+    write_at(&mut block, 80, &VOLUME);
+    write_at(&mut block, 96, &DEVICE);
+    let crc = crc32_le(1, &block);
+    write_at(&mut block, 44, &crc.to_le_bytes());
+    block
+}
+
+/// A map block that maps one chunk, the one whose place in the block is `i`.
+pub fn map_block(i: usize, zone: u32, buffer: u32) -> [u8; 4096]
+    requires { i < 512 }
+{
+    let mut block = [0xFF; 4096];
+    write_at(&mut block, 8 * i, &zone.to_le_bytes());
+    write_at(&mut block, 8 * i + 4, &buffer.to_le_bytes());
+    block
+}
+
+/// A bitmap block of a zone of which one of the first eight blocks is valid.
+fn bitmap_block(valid: u8) -> [u8; 4096]
+    requires { valid < 8 }
+{
+    let mut block = [0; 4096];
+    block[0] = 1 << valid;
+    block
+}
+
+/// Block `i` of a set of a volume that nobody wrote.
+pub fn set_block(layout: &Layout, own: u64, i: u32) -> [u8; 4096] {
+    if i == 0 {
+        super_block(layout, own)
+    } else if i <= layout.map_blocks {
+        [0xFF; 4096]
+    } else {
+        [0; 4096]
+    }
+}
+
+/// Writes a block, in a sequential zone at its pointer.
+pub fn put<D: ZonedDisk>(
+    rt: &impl Abort,
+    disk: &mut D,
+    zone: u32,
+    block: u32,
+    bytes: &[u8; 4096],
+) -> Result<(), Failed> {
+    let geometry = disk.geometry()?;
+    assert!(rt; zone < geometry.zones());
+    assert!(rt; block < geometry.zone_blocks());
+    if geometry.kind(ZoneNo(zone)) == Kind::Sequential {
+        assert!(rt; disk.report(ZoneNo(zone))? == 8 * block);
+    }
+    disk.write(ZoneNo(zone), 8 * block, bytes)
+}
+
+/// Makes all that was written outlast a stop.
+pub fn flush<D: ZonedDisk>(disk: &mut D) -> Result<(), Failed> {
+    let _geometry = disk.geometry()?;
+    disk.flush()
+}
+
+/// Writes the set of metadata that begins in zone `first`.
+fn put_set<D: ZonedDisk>(
+    rt: &impl Abort,
+    disk: &mut D,
+    layout: &Layout,
+    first: u32,
+) -> Result<(), Failed> {
+    let zone_blocks = disk.geometry()?.zone_blocks();
+    assert!(rt; first < 65_536);
+    let own = u64::from(first) * u64::from(zone_blocks);
+    for i in 0..layout.meta_blocks {
+        let block = set_block(layout, own, i);
+        put(rt, disk, first + i / zone_blocks, i % zone_blocks, &block)?;
+    }
+    Ok(())
+}
+
+/// Writes both sets of a volume that nobody wrote.
+pub fn format<D: ZonedDisk>(rt: &impl Abort, disk: &mut D, layout: &Layout) -> Result<(), Failed> {
+    let geometry = disk.geometry()?;
+    put_set(rt, disk, layout, 0)?;
+    put_set(rt, disk, layout, layout.set_zones(&geometry))?;
+    flush(disk)
+}
+
+/// The volume of the rows, which nobody wrote.
+pub fn fresh(rt: &(impl Abort + AllocGlobal)) -> Result<MemDisk, Fail> {
+    let mut disk = MemDisk::blank(rt.alloc(), Geometry::new(16, 6, 6)?)?;
+    format(rt, &mut disk, &SMALL)?;
+    Ok(disk)
+}
+
+/// The pattern of a block of the logical device.
+fn patterned(seed: u32, block: u32) -> [u8; 4096] {
+    let mut bytes = [0; 4096];
+    for i in 0..8u32 {
+        let at = SECTOR * i as usize;
+        pattern(
+            seed,
+            8 * u64::from(block) + u64::from(i),
+            &mut bytes[at..at + SECTOR],
+        );
+    }
+    bytes
+}
+
+/// A block of data of chunk 0: the zone that has it, its number in the chunk and so in the zone, and
+/// the seed of its pattern.
+#[derive(Clone, Copy)]
+pub struct Data {
+    pub zone: u32,
+    pub block: u32,
+    pub seed: u32,
+}
+
+/// Makes a block of chunk 0 valid in its zone, and writes its data.
+fn put_data(rt: &impl Abort, disk: &mut MemDisk, data: Data) -> Result<(), Failed> {
+    assert!(rt; data.zone < 12 && data.block < 8);
+    let bits = bitmap_block(data.block as u8);
+    put(rt, disk, 0, 2 + data.zone, &bits)?;
+    put(rt, disk, 1, 2 + data.zone, &bits)?;
+    let bytes = patterned(data.seed, data.block);
+    put(rt, disk, data.zone, data.block, &bytes)
+}
+
+/// The volume of the rows whose chunk 0 has a zone and a buffer, with some blocks of data.
+pub fn with_chunk(
+    rt: &(impl Abort + AllocGlobal),
+    zone: u32,
+    buffer: u32,
+    data: &[Data],
+) -> Result<MemDisk, Fail> {
+    let mut disk = fresh(rt)?;
+    let map = map_block(0, zone, buffer);
+    put(rt, &mut disk, 0, 1, &map)?;
+    put(rt, &mut disk, 1, 1, &map)?;
+    for item in data {
+        put_data(rt, &mut disk, *item)?;
+    }
+    flush(&mut disk)?;
+    Ok(disk)
+}

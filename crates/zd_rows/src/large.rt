@@ -1,0 +1,37 @@
+//! A volume whose sets take many zones, and whose map takes many blocks.
+
+use crate::fresh::{NONE, flush, format, map_block, put};
+use crate::run::expect;
+use std::test::Fail;
+use zd_base::{Geometry, Layout};
+use zd_memdisk::MemDisk;
+
+/// The layout on a disk of 1,201 conventional and 3,586 sequential zones of 8 blocks.
+///
+/// A set takes 600 zones. The last block of the map has the entry of the last chunk alone, and is the
+/// first block of zone 1.
+const LARGE: Layout = Layout {
+    meta_blocks: 4796,
+    reserved: 2,
+    chunks: 3585,
+    map_blocks: 8,
+    bitmap_blocks: 4787,
+};
+
+#[test]
+fn all_chunks_of_a_large_volume_are_looked_at(rt: HostRuntime) -> Result<(), Fail> {
+    let mut disk = MemDisk::blank(rt.alloc(), Geometry::new(8, 1201, 3586)?)?;
+    format(&rt, &mut disk, &LARGE)?;
+    let output = "0 1 0 r 28671 1 data z8 @0;\
+        0 1 1 r 28672 8 data z64 @0;\
+        0 2 0 r 28680 1 range @0;\
+        end 0 ok;";
+    let mut disk = expect(&rt, disk, "r 0 28671 9;r 0 28680 1;", output, 0)?;
+    put(&rt, &mut disk, 1, 0, &map_block(1, 1300, NONE))?;
+    flush(&mut disk)?;
+    let mut disk = expect(&rt, disk, "", "end 0 ok;", 0)?;
+    put(&rt, &mut disk, 1, 0, &map_block(0, 1300, NONE))?;
+    flush(&mut disk)?;
+    expect(&rt, disk, "", "end 11 not-built;", 11)?;
+    Ok(())
+}

@@ -1,0 +1,20 @@
+//! Whole runs over small volumes: what they print, and the status that they end with.
+//!
+//! Tests alone stand here, above all the crates that they run through. In their texts `;` is the line
+//! feed byte.
+#![tactic(auto)]
+
+#[cfg(test)]
+mod failures;
+#[cfg(test)]
+mod fresh;
+#[cfg(test)]
+mod image_file;
+#[cfg(test)]
+mod large;
+#[cfg(test)]
+mod reads;
+#[cfg(test)]
+mod refusals;
+#[cfg(test)]
+mod run;

@@ -1,0 +1,6 @@
+pub mod ReadLaws
+pub mod NumberLaws
+pub mod FieldLaws
+pub mod LineForms
+pub mod RequestLaws
+pub mod PlanLaws

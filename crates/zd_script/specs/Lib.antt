@@ -1,0 +1,5 @@
+pub mod Fault
+pub mod Number
+pub mod Line
+pub mod Limits
+pub mod Read
