@@ -20,6 +20,11 @@ Both-new None (Some k) P j h e = absurd h
 Both-new (Some i) None P j h e = absurd h
 Both-new (Some i) (Some k) P j h e = (i, refl, subst (P i) (Some-same k j e) h)
 
+-- where both are told
+pub Both-at : (old new : Option Image) (P : Image → Image → Type 0) (i j : Image) → old ≡ Some i → new ≡ Some j → Both old new P → P i j
+Both-at old new P i j e f h =
+    subst (λ (o : Option Image). Both o (Some j) P) e (subst (λ (n : Option Image). Both old n P) f h)
+
 pub OnOk-at : {T E : Type 0} (r : Result T E) (P : Type 0) → is_ok r ≡ true → OnOk r P → P
 OnOk-at (Ok x) P e h = h
 OnOk-at (Err x) P e h = absurd (let f : ⊥ = cc in f)

@@ -4,7 +4,7 @@ use Rattle.zd_model.specs.Image.{Image}
 use Rattle.zd_model.specs.Left.{Call, IsLeft}
 use Rattle.zd_memdisk.specs.Calls.{not_begun}
 use Rattle.zd_memdisk.specs.Stores.{store_image}
-use Rattle.zd_memdisk.specs.Records.{record_calls}
+use Rattle.zd_memdisk.specs.Records.{record_calls, KeepsRoom}
 use Rattle.zd_memdisk.specs.declared.recorded.RecordedStore.{RecordedStore}
 
 abbrev pub first_image : RecordedStore → Image
@@ -20,8 +20,9 @@ calls_by s = record_calls s.history
 abbrev pub left_by : RecordedStore → ℕ → Image → Type 0
 left_by s = IsLeft (first_image s) (calls_by s)
 
--- all but the room is as it was
+-- all is as it was, and there is no less room
 pub record IsSameStore (old new : RecordedStore) : Type 0 where
+  pub room : KeepsRoom old.history new.history
   pub first : new.first ≡ old.first
   pub store : new.store ≡ old.store
   pub history : calls_by new ≡ calls_by old

@@ -29,3 +29,8 @@ pub record HasRoomFor (calls bytes : ℕ) (r : Record) : Type 0 where
 pub record UsesRoom (bytes : ℕ) (old new : Record) : Type 0 where
   pub call : spare_calls old ≤ spare_calls new + 1
   pub bytes_of_it : spare_bytes old ≤ spare_bytes new + bytes
+
+-- there is no less room than before
+pub record KeepsRoom (old new : Record) : Type 0 where
+  pub calls_of_it : spare_calls old ≤ spare_calls new
+  pub bytes_of_it : spare_bytes old ≤ spare_bytes new

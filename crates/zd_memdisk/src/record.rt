@@ -53,7 +53,7 @@ pub struct Record {
 }
 
 impl Record {
-    ghost use Rattle.zd_memdisk.specs.Records.{record_calls, HasRoom, HasRoomFor, UsesRoom};
+    ghost use Rattle.zd_memdisk.specs.Records.{record_calls, HasRoom, HasRoomFor, UsesRoom, KeepsRoom};
     ghost use Rattle.zd_memdisk.specs.Calls.{call_by, not_begun};
 
     /// A record of no calls, which takes no memory.
@@ -72,6 +72,7 @@ impl Record {
     /// `Memory` leaves the calls as they were.
     pub fn reserve(&mut self, calls: usize, bytes: usize) -> Result<(), Memory>
         ensures room { OnOk result (HasRoomFor calls bytes self.new) }
+        ensures rest { KeepsRoom self.old self.new }
         ensures same { record_calls self.new ≡ record_calls self.old }
     {
         if self.noted.reserve(calls).is_err() {

@@ -1,9 +1,9 @@
 -- What a stop may leave after one more call, and now.
-use Rattle.std.proofs.Common.{◌≡◌, ◌⊎◌, ℕ, zero, suc, ◌+◌, ◌<◌, ◌≤◌, List, [], ◌∷◌, ◌++◌, length, take, Bool, true, false, inl, inr, refl, ap, sym, ◌∙◌, subst, arith, length-append}
+use Rattle.std.proofs.Common.{◌≡◌, ℕ, zero, suc, ◌<◌, ◌≤◌, List, [], ◌∷◌, ◌++◌, length, take, Bool, true, false, refl, ap, sym, ◌∙◌, subst, arith}
 use Rattle.std.proofs.lemmas.List.{append-nil, take_all}
 use Rattle.zd_base.specs.Geometry.{Shape, zone_sectors}
 use Rattle.zd_model.specs.Image.{Image, IsImage, SameZone, Same}
-use Rattle.zd_model.specs.Left.{Event, replay, on_zone, IsPut, IsStop, Call, asked_of, Since, after_call, after_calls, since_flush, under_way, IsLeft, now_by}
+use Rattle.zd_model.specs.Left.{Event, replay, on_zone, IsStop, Call, asked_of, Since, after_call, after_calls, since_flush, under_way, IsLeft, now_by}
 use Rattle.zd_model.specs.Left.Call.{Does, Flushes}
 use Rattle.zd_model.proofs.EventLaws.{geometry-replay, replay-append, replay_values, replay_zone, one_zone, one_zone_same, SameZone-trans}
 
