@@ -54,7 +54,7 @@ module _ {T : Type 0} where
   others : (p q : Place T) (j : ℕ) → p ≢ opening j → p ≢ held j → (role : Role) → Fits p j role → Fits q j role
   others p q j a b Spent f = tt
   others p q j a b Waits f = tt
-  others p q j a b Opens f = absurd (a f)
+  others p q j a b Opens f = absurd (a f.0)
   others p q j a b Holds f = absurd (b f)
 
   longer : (p : Place T) (views : List View) (w : View) → IsSeated p views → IsSeated p (views ++ w ∷ [])
@@ -114,7 +114,7 @@ module _ {T : Type 0} where
       words = refl;
       homes = refl;
       carries = tt;
-      each_seat = alone v (Knows p constant) ((λ _. refl), refl);
+      each_seat = alone v (Knows p constant) ((λ _. refl), (refl, refl));
       seated = (v, refl, refl);
     }
 
@@ -155,7 +155,7 @@ module _ {T : Type 0} where
 
     pub opens : (slots id : ℕ) (me : M) → me.0.role ≡ Opens → Allows Rule slots id me 0 (λ _. 1) (opened (step slots 0 1 0 none) me)
     opens slots id me is s r deep at small =
-        let e : r.place ≡ opening id = fits s r id me.0 Opens at is in
+        let e : r.place ≡ opening id = (fits s r id me.0 Opens at is).0 in
         let words : s.words ≡ 1 ∷ [] = r.words ∙ ap (λ (p : Place T). word_of p ∷ []) e in
         let homes : s.homes ≡ some None ∷ [] = r.homes ∙ ap (λ (p : Place T). home_of p ∷ []) e in
         let same : me.0.constant ≡ r.constant = (r.each_seat id me.0 at).0 (live me.0.role Opens is opens_live) in

@@ -15,7 +15,7 @@ module _ {T : Type 0} where
   has : (p : Place T) (j : ℕ) (role : Role) → HasTurn role → Fits p j role → (p ≡ opening j) ⊎ (p ≡ held j)
   has p j Spent h f = absurd h
   has p j Waits h f = absurd h
-  has p j Opens h f = inl f
+  has p j Opens h f = inl f.0
   has p j Holds h f = inr f
 
   same_seat : (p : Place T) (i j : ℕ) → (p ≡ opening i) ⊎ (p ≡ held i) → (p ≡ opening j) ⊎ (p ≡ held j) → i ≡ j
@@ -63,5 +63,6 @@ module _ {T : Type 0} where
             (λ o. is_out p s.views (some-injective (home_of p) none (sym slot ∙ o)) r.seated),
             λ t. slot ∙ ap (λ (q : Place T). some (home_of q)) (subst (Fits p t.0) t.3 (r.each_seat t.0 t.1 t.2).1),
           );
+          maker = λ j v at is. (subst (Fits p j) is (r.each_seat j v at).1).1;
           same = λ i j v w a b h k. (r.each_seat i v a).0 h ∙ sym ((r.each_seat j w b).0 k);
         }

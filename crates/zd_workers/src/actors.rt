@@ -10,14 +10,14 @@ use std::thread;
 use zd_base::Stepped;
 use zd_ports::{Gate, Stepper};
 
-/// An actor with its seat.
+/// An actor: its number, and its seat at the turn.
 #[derive(Drop)]
 pub struct Actor<T> {
     pub number: u32,
     pub seat: Seated<T>,
 }
 
-/// One step, if the turn is free. The seat is as before.
+/// Makes one step, where the turn is free, and gives the turn back; the seat then waits as before.
 fn hold<T: Stepper>(
     turn: &Turn<T>,
     seat: &mut Seated<T>,
@@ -35,7 +35,8 @@ fn hold<T: Stepper>(
     Some(stepped)
 }
 
-/// Steps, and passes the gate, until nothing is left to step. A turn that is lost and a step that has to wait are tried again.
+/// Steps, and passes the gate after each step that was made, until nothing is left to step. A turn
+/// that another has and a step that has to wait for others are tried again.
 pub fn act<T: Stepper, G: Gate, R: Wait>(
     rt: &R,
     turn: &Turn<T>,

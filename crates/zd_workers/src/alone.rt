@@ -1,18 +1,17 @@
 //! A stepper that one thread drives for every actor.
-ghost use Rattle.std.specs.Prelude.{◌≡◌, ◌+◌, ◌<◌, ◌≤◌, true};
+ghost use Rattle.std.specs.Prelude.{◌≡◌, ◌↔◌, ◌+◌, ◌<◌, ◌≤◌, true};
 ghost use Rattle.zd_ports.specs.Actors.{actors_of};
-ghost use Rattle.zd_base.specs.declared.steps.Prefer.TheVariants.{Pieces, Commits, Jobs};
+ghost use Rattle.zd_base.specs.declared.steps.Prefer.TheVariants.{Commits, Jobs};
 
 use std::sync::Wait;
 use zd_base::{Prefer, Stepped};
 use zd_ports::{Gate, Stepper};
 
-/// What an actor prefers: with two actors the second commits, and of more the last commits and the one before it has the jobs.
+/// What an actor prefers: of two and more the last commits, of three and more the one before it has
+/// the jobs, and all others have pieces.
 pub fn preference(actor: u32, actors: u32) -> Prefer
-    ensures last { 2 ≤ actors → actor + 1 ≡ actors → result ≡ Commits }
-    ensures before { 3 ≤ actors → actor + 2 ≡ actors → result ≡ Jobs }
-    ensures only { actors ≡ 1 → result ≡ Pieces }
-    ensures others { actor + 2 < actors → result ≡ Pieces }
+    ensures commits { result ≡ Commits ↔ (2 ≤ actors) × (actor + 1 ≡ actors) }
+    ensures jobs { result ≡ Jobs ↔ (3 ≤ actors) × (actor + 2 ≡ actors) }
 {
     if actors >= 2 && actor == actors - 1 {
         Prefer::Commits
@@ -23,7 +22,8 @@ pub fn preference(actor: u32, actors: u32) -> Prefer
     }
 }
 
-/// Steps for one actor after the other until the stepper has ended.
+/// Steps for one actor after the other until the stepper has ended, and passes the gate after each
+/// step that was made.
 pub fn drive<T: Stepper, G: Gate, R: Wait>(rt: &R, mut stepper: T, actors: u32, gate: &G) -> T
     requires some { 0 < actors }
     requires actors { actors ≡ actors_of (T.constant stepper) }

@@ -13,7 +13,7 @@ use std::thread;
 use std::thread::Threads;
 use zd_ports::{Gate, Stepper};
 
-/// A seat for each actor beside the caller's.
+/// The actors, each with a seat of its own beside the caller's.
 fn actors_at<T: Stepper>(
     alloc: Global,
     turn: &Turn<T>,
@@ -22,7 +22,9 @@ fn actors_at<T: Stepper>(
 ) -> Result<Vec<Actor<T>>, AllocError>
     requires { IsWaiting turn.now.table.shared.table_id (constant_at seat.old) seat.old }
     ensures seat { IsWaiting turn.now.table.shared.table_id (constant_at seat.old) seat.new }
-    ensures all { IfOk result (λ v. All (λ a. IsWaiting turn.now.table.shared.table_id (constant_at seat.old) a.seat × (a.number < actors)) v.items) }
+    ensures seats { IfOk result (λ all. All (λ a.
+        IsWaiting turn.now.table.shared.table_id (constant_at seat.old) a.seat) all.items) }
+    ensures numbers { IfOk result (λ all. All (λ a. a.number < actors) all.items) }
 {
     let mut all = Vec::new(alloc);
     for number in 0..actors {
@@ -35,10 +37,11 @@ fn actors_at<T: Stepper>(
     Ok(all)
 }
 
-/// Ends the actors' seats.
+/// Ends the seats that the actors handed back.
 fn join_all<T: Stepper>(turn: &Turn<T>, seat: &mut Seated<T>, mut others: Vec<Seated<T>>)
     requires own { IsWaiting turn.now.table.shared.table_id (constant_at seat.old) seat.old }
-    requires others { All (IsWaiting turn.now.table.shared.table_id (constant_at seat.old)) others.items }
+    requires others {
+        All (IsWaiting turn.now.table.shared.table_id (constant_at seat.old)) others.items }
     ensures { IsWaiting turn.now.table.shared.table_id (constant_at seat.old) seat.new }
 {
     while let Some(other) = others.pop() {
@@ -46,7 +49,7 @@ fn join_all<T: Stepper>(turn: &Turn<T>, seat: &mut Seated<T>, mut others: Vec<Se
     }
 }
 
-/// Waits for the turn, and takes the stepper.
+/// Waits for the turn, and takes the stepper out for good.
 fn take<T: Stepper, R: Wait>(rt: &R, turn: Turn<T>, mut seat: Seated<T>) -> T
     requires { IsWaiting turn.table.shared.table_id (constant_at seat) seat }
     ensures { T.constant result ≡ constant_at seat }
@@ -60,7 +63,8 @@ fn take<T: Stepper, R: Wait>(rt: &R, turn: Turn<T>, mut seat: Seated<T>) -> T
     unreachable!()
 }
 
-/// Runs the actors, each in a thread of its own where one can be started, and gives the stepper as they left it.
+/// Runs the actors, each in a thread of its own where one can be started, and gives the stepper as
+/// they left it. Where memory is wanting it may not have ended.
 fn share<T: Stepper, G: Gate + Sync, R: Threads + Wait + Sync>(
     rt: &R,
     alloc: Global,
@@ -76,8 +80,12 @@ fn share<T: Stepper, G: Gate + Sync, R: Threads + Wait + Sync>(
     if let Ok(all) = actors_at(alloc, &turn, &mut seat, actors) {
         let shared = &turn;
         let part = move |actor: Actor<T>| -> Seated<T>
-            requires { IsWaiting shared.now.table.shared.table_id (constant_at actor.seat) actor.seat × (actors ≡ actors_of (constant_at actor.seat)) × (actor.number < actors) }
-            ensures { IsWaiting shared.entry.now.table.shared.table_id (constant_at actor.seat) result }
+            requires seat {
+                IsWaiting shared.now.table.shared.table_id (constant_at actor.seat) actor.seat }
+            requires actors { actors ≡ actors_of (constant_at actor.seat) }
+            requires number { actor.number < actors }
+            ensures {
+                IsWaiting shared.entry.now.table.shared.table_id (constant_at actor.seat) result }
         { act(rt, shared, gate, actors, actor) };
         if let Ok(seats) = thread::map_vec(rt, all, &part) {
             join_all(&turn, &mut seat, seats);
@@ -86,7 +94,15 @@ fn share<T: Stepper, G: Gate + Sync, R: Threads + Wait + Sync>(
     take(rt, turn, seat)
 }
 
-/// Runs the stepper by this many actors, who take turns in threads of their own, until it has ended. It is driven by one thread where no memory is found.
+/// Has this many actors, 1 to 64 and the number that the stepper names, step it until it has ended,
+/// and gives it back. The actors take turns, each in a thread of its own where one can be started,
+/// and an actor passes the gate after each step that it made, while others may step.
+///
+/// Of two and more actors the last prefers commits, of three and more the one before it prefers jobs;
+/// all others prefer pieces. Where no memory is found for the turn, the seats or the threads, the
+/// caller steps what is left, for one actor after the other.
+///
+/// Nothing is promised of time, or that a turn comes to an actor: it waits, and may not return.
 pub fn run_actors<T: Stepper, G: Gate + Sync, R: Threads + Wait + Sync>(
     rt: &R,
     alloc: Global,
@@ -94,7 +110,7 @@ pub fn run_actors<T: Stepper, G: Gate + Sync, R: Threads + Wait + Sync>(
     actors: u32,
     gate: &G,
 ) -> T
-    requires some { (0 < actors) × (actors ≤ 64) }
+    requires range { (0 < actors) × (actors ≤ 64) }
     requires actors { actors ≡ actors_of (T.constant stepper) }
     ensures constant { T.constant result ≡ T.constant stepper }
     ensures ended { T.has_ended result ≡ true }
