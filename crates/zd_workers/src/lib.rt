@@ -6,6 +6,8 @@ mod alone;
 mod law;
 mod plays;
 mod run;
+#[cfg(test)]
+mod tests;
 mod turn;
 mod view;
 

@@ -98,8 +98,8 @@ fn share<T: Stepper, G: Gate + Sync, R: Threads + Wait + Sync>(
 /// and gives it back. The actors take turns, each in a thread of its own where one can be started,
 /// and an actor passes the gate after each step that it made, while others may step.
 ///
-/// Of two and more actors the last prefers commits, of three and more the one before it prefers jobs;
-/// all others prefer pieces. Where no memory is found for the turn, the seats or the threads, the
+/// Of two and more actors the last prefers commits, of three and more the one before it prefers
+/// jobs; all others prefer pieces. Where no memory is found for the turn, the seats or the threads, the
 /// caller steps what is left, for one actor after the other.
 ///
 /// Nothing is promised of time, or that a turn comes to an actor: it waits, and may not return.
