@@ -40,8 +40,7 @@ fn actors_at<T: Stepper>(
 /// Ends the seats that the actors handed back.
 fn join_all<T: Stepper>(turn: &Turn<T>, seat: &mut Seated<T>, mut others: Vec<Seated<T>>)
     requires own { IsWaiting turn.now.table.shared.table_id (constant_at seat.old) seat.old }
-    requires others {
-        All (IsWaiting turn.now.table.shared.table_id (constant_at seat.old)) others.items }
+    requires others { All (IsWaiting turn.now.table.shared.table_id (constant_at seat.old)) others.items }
     ensures { IsWaiting turn.now.table.shared.table_id (constant_at seat.old) seat.new }
 {
     while let Some(other) = others.pop() {
@@ -80,12 +79,10 @@ fn share<T: Stepper, G: Gate + Sync, R: Threads + Wait + Sync>(
     if let Ok(all) = actors_at(alloc, &turn, &mut seat, actors) {
         let shared = &turn;
         let part = move |actor: Actor<T>| -> Seated<T>
-            requires seat {
-                IsWaiting shared.now.table.shared.table_id (constant_at actor.seat) actor.seat }
+            requires seat { IsWaiting shared.now.table.shared.table_id (constant_at actor.seat) actor.seat }
             requires actors { actors ≡ actors_of (constant_at actor.seat) }
             requires number { actor.number < actors }
-            ensures {
-                IsWaiting shared.entry.now.table.shared.table_id (constant_at actor.seat) result }
+            ensures { IsWaiting shared.entry.now.table.shared.table_id (constant_at actor.seat) result }
         { act(rt, shared, gate, actors, actor) };
         if let Ok(seats) = thread::map_vec(rt, all, &part) {
             join_all(&turn, &mut seat, seats);
@@ -99,8 +96,8 @@ fn share<T: Stepper, G: Gate + Sync, R: Threads + Wait + Sync>(
 /// and an actor passes the gate after each step that it made, while others may step.
 ///
 /// Of two and more actors the last prefers commits, of three and more the one before it prefers
-/// jobs; all others prefer pieces. Where no memory is found for the turn, the seats or the threads, the
-/// caller steps what is left, for one actor after the other.
+/// jobs; all others prefer pieces. Where no memory is found for the turn, the seats or the threads,
+/// the caller steps what is left, for one actor after the other.
 ///
 /// Nothing is promised of time, or that a turn comes to an actor: it waits, and may not return.
 pub fn run_actors<T: Stepper, G: Gate + Sync, R: Threads + Wait + Sync>(

@@ -76,7 +76,11 @@ fn the_last_actors_prefer_commits_and_jobs(rt: HostRuntime) -> Result<(), Fail> 
         assert!(rt; gate.passes() == (u64::from(actors), 0), "{actors} actors");
         for actor in 0..actors {
             let want = wanted[(actors - 1) as usize][actor as usize];
-            assert_eq!(rt; roll.preferred(actor), Some(want), "actor {actor} of {actors}");
+            assert_eq!(rt;
+                roll.preferred(actor),
+                Some(want),
+                "actor {actor} of {actors}"
+            );
         }
     }
     Ok(())
