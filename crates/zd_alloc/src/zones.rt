@@ -1,8 +1,8 @@
 //! The zones of one kind.
 
-ghost use Rattle.std.specs.Prelude.{◌≡◌, ◌≢◌, ℕ, ◌<◌, ◌≤◌, Bool, true, false, length, map, set, count_by, IfOk, IfSome, IfNone};
-ghost use Rattle.zd_alloc.specs.Zones.{use_at, is_free, is_limbo, released, after_limbo, IsLeastFree, IsTally};
-ghost use Rattle.zd_alloc.specs.declared.uses.ZoneUse.TheVariants.{Free, Held, Limbo};
+ghost use Rattle.std.specs.Prelude.{◌≡◌, ◌≢◌, ℕ, ◌<◌, ◌≤◌, Bool, true, false, length, map, set, replicate, count_by, IfOk, IfSome, IfNone};
+ghost use Rattle.zd_alloc.specs.Zones.{use_at, is_free, is_limbo, released, after_limbo, IsLeastFree};
+ghost use Rattle.zd_alloc.specs.declared.uses.ZoneUse.TheVariants.{Meta, Free, Held, Limbo};
 
 use crate::flags::FlagSet;
 use crate::uses::ZoneUse;
@@ -31,7 +31,39 @@ impl Model for Zones {
     ghost invariant = { λ z. IsKept z.uses.items z.free z.limbo z.free_count z.limbo_count };
 }
 
+fn all_held(alloc: Global, count: u32) -> Result<Vec<ZoneUse>, AllocError>
+    ensures { IfOk result (λ v. v.items ≡ replicate count Held) }
+{
+    vec![in alloc; ZoneUse::Held; count as usize]
+}
+
 impl Zones {
+    /// So many zones, all of them held.
+    pub(crate) fn held(alloc: Global, count: u32) -> Result<Zones, AllocError>
+        requires { count ≤ 65536 }
+        ensures { IfOk result (λ z. z ≡ replicate count Held) }
+    {
+        let free = FlagSet::new(alloc, count)?;
+        let limbo = FlagSet::new(alloc, count)?;
+        let uses = all_held(alloc, count)?;
+        Ok(Zones {
+            uses,
+            free,
+            limbo,
+            free_count: 0,
+            limbo_count: 0,
+        })
+    }
+
+    /// Lays a held zone aside for metadata.
+    pub(crate) fn lay_aside(&mut self, zone: u32)
+        requires inside { zone < length self.old }
+        requires held { use_at self.old zone ≡ Held }
+        ensures { self.new ≡ set self.old zone Meta }
+    {
+        self.uses[zone as usize] = ZoneUse::Meta;
+    }
+
     /// The number of zones.
     pub(crate) fn count(&self) -> u32
         ensures value { result ≡ length self.now }
@@ -67,6 +99,7 @@ impl Zones {
         ensures some { IfSome result (λ zone. IsLeastFree self.now zone) }
         ensures none { IfNone result ((zone : ℕ) → use_at self.now zone ≢ Free) }
         ensures inside { IfSome result (λ zone. zone < length self.now) }
+        ensures few { IfSome result (λ zone. zone < 65536) }
     {
         self.free.least()
     }
@@ -78,6 +111,7 @@ impl Zones {
         ensures none { IfNone result
             (((zone : ℕ) → use_at self.old zone ≢ Free) × (self.new ≡ self.old)) }
         ensures inside { IfSome result (λ zone. zone < length self.old) }
+        ensures few { IfSome result (λ zone. zone < 65536) }
     {
         let zone = self.least_free()?;
         self.free.remove(zone);
