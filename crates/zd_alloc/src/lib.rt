@@ -9,3 +9,6 @@ mod zones;
 
 pub use alloc::Alloc;
 pub use uses::ZoneUse;
+
+#[cfg(test)]
+mod tests;
