@@ -32,3 +32,36 @@ fn zones_at_the_start(rt: HostRuntime) -> Result<(), Fail> {
     assert_eq!(rt; zones.least_free(Kind::Sequential), Some(ZoneNo(7)));
     Ok(())
 }
+
+#[test]
+fn takes_go_up_to_the_last_free_zone(rt: HostRuntime) -> Result<(), Fail> {
+    let mut zones = small(rt.alloc())?;
+    assert_eq!(rt; zones.take_conventional(), Some(ZoneNo(2)));
+    assert_eq!(rt; zones.take_conventional(), Some(ZoneNo(4)));
+    assert_eq!(rt; zones.take_conventional(), Some(ZoneNo(5)));
+    assert_eq!(rt; zones.take_conventional(), None);
+    assert_eq!(rt; zones.free(Kind::Conventional), 0);
+    assert_eq!(rt; zones.take_sequential(), Some(ZoneNo(7)));
+    assert_eq!(rt; zones.free(Kind::Sequential), 4);
+    Ok(())
+}
+
+/// Takes a conventional zone and gives it back, `named` or not.
+fn take_and_release(zones: &mut Alloc, named: bool) -> Option<ZoneNo> {
+    let zone = zones.take_conventional()?;
+    zones.release(zone, named);
+    Some(zone)
+}
+
+#[test]
+fn a_zone_in_limbo_is_free_once_limbo_has_ended(rt: HostRuntime) -> Result<(), Fail> {
+    let mut zones = small(rt.alloc())?;
+    assert_eq!(rt; take_and_release(&mut zones, false), Some(ZoneNo(2)));
+    assert_eq!(rt; take_and_release(&mut zones, true), Some(ZoneNo(2)));
+    assert_eq!(rt; zones.limbo(Kind::Conventional), 1);
+    assert_eq!(rt; zones.least_free(Kind::Conventional), Some(ZoneNo(4)));
+    zones.end_limbo();
+    assert_eq!(rt; zones.limbo(Kind::Conventional), 0);
+    assert_eq!(rt; zones.least_free(Kind::Conventional), Some(ZoneNo(2)));
+    Ok(())
+}
