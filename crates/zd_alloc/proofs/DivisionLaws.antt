@@ -1,14 +1,14 @@
 -- Zones of both kinds in one list.
-use Rattle.std.proofs.Common.{◌≡◌, ◌≢◌, inl, inr, ℕ, Bool, false, ◌+◌, ◌-◌, ◌*◌, ◌<◌, ◌≤◌, List, ◌++◌, length, get_or, set, refl, sym, ap, ap₂, ◌∙◌, arith, length-set, length-append}
+use Rattle.std.proofs.Common.{◌≡◌, inl, inr, ℕ, Bool, false, ◌+◌, ◌-◌, ◌*◌, ◌<◌, ◌≤◌, List, ◌++◌, length, get_or, set, refl, sym, ap, ap₂, ◌∙◌, arith, length-set, length-append}
 use Rattle.std.proofs.lemmas.List.{get_or_append_left, get_or-append_right, set-append_left, set-append_right}
 use Rattle.std.proofs.lemmas.Bool.{cases_lt}
-use Rattle.zd_base.specs.Geometry.{Shape, zone_count}
+use Rattle.zd_base.specs.Geometry.{Shape}
 use Rattle.zd_base.specs.Layout.{set_zones, first_data_zone}
 use Rattle.zd_base.specs.declared.layout.Layout.{Layout}
 use Rattle.zd_base.specs.declared.geometry.Kind.TheVariants.{Conventional, Sequential}
 use Rattle.zd_alloc.specs.Zones.{use_at, division, use_at_start, IsLeastFree, IsLeastOf, Takes, IsStart}
 use Rattle.zd_alloc.specs.declared.uses.ZoneUse.{ZoneUse}
-use Rattle.zd_alloc.specs.declared.uses.ZoneUse.TheVariants.{Meta, Free, Held}
+use Rattle.zd_alloc.specs.declared.uses.ZoneUse.TheVariants.{Meta, Held}
 
 -- a use of the second list
 at_right : (a b : List ZoneUse) (i : ℕ) → length a ≤ i → use_at (a ++ b) i ≡ use_at b (i - length a)

@@ -1,9 +1,9 @@
 -- A flag of a word put and taken, and the least one found.
-use Rattle.std.proofs.Common.{◌≡◌, ◌≢◌, inl, inr, ℕ, ◌+◌, ◌-◌, ◌*◌, ◌/◌, ◌%◌, ◌<◌, ◌≤◌, ◌^◌, Bool, true, false, not, List, length, get_or, set, nat_eq, w64, bit_and, bit_or, refl, sym, ap, ◌∙◌, arith, slice_index, slice_set, true≢false, rules, get_or-set_same, get_or-set_other}
+use Rattle.std.proofs.Common.{◌≡◌, ◌≢◌, inl, inr, ℕ, ◌+◌, ◌*◌, ◌/◌, ◌%◌, ◌<◌, ◌≤◌, ◌^◌, Bool, true, false, not, List, length, get_or, set, nat_eq, w64, bit_and, bit_or, refl, sym, ap, ◌∙◌, arith, slice_index, true≢false, rules, get_or-set_same, get_or-set_other}
 use Rattle.std.specs.Int.{bit_at, bit_not, trailing_zeros}
 use Rattle.std.proofs.lemmas.List.{get_or_read, get_or_past}
 use Rattle.std.proofs.lemmas.Bool.{cases_lt, cases_eq}
-use Rattle.std.proofs.lemmas.Nat.Bits.{bit_at-lt, bit_at-zero, bit_at-trailing_zeros, bit_at_set_same, bit_at_set_other, bit_at_clear_same, bit_at_clear_other}
+use Rattle.std.proofs.lemmas.Nat.Bits.{bit_at-zero, bit_at-trailing_zeros, bit_at_set_same, bit_at_set_other, bit_at_clear_same, bit_at_clear_other}
 use Rattle.zd_alloc.specs.Flags.{has, GivesFlag, IsLeast, HasNone, IsSummed}
 
 -- what an index of a list gives
@@ -82,7 +82,7 @@ zero_not : (w : ℕ) → w ≡ 0 → not (nat_eq w 0) ≡ false
 zero_not w e = ap (λ (x : ℕ). not (nat_eq x 0)) e
 
 some_not : (w : ℕ) → 0 < w → not (nat_eq w 0) ≡ true
-some_not w some = elim (cases_eq w 0) [ | inl e ↦ absurd (omega (arith, e, some)) | inr ne ↦ search (rules, ne) ]
+some_not w some = elim (cases_eq w 0) [ inl e ↦ absurd (omega (arith, e, some)) | inr ne ↦ search (rules, ne) ]
 
 -- a word whose flag in the summary is down is 0
 pub summed_zero : (words summary : List ℕ) (i : ℕ) → IsSummed words summary → has summary i ≡ false → slice_index words i ≡ 0

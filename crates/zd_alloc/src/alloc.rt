@@ -61,7 +61,12 @@ fn started(
 impl Alloc {
     /// The zones at the start: those of both sets of metadata are laid aside, those that are named
     /// are held, all others are free. `named` has a flag for each zone.
-    pub fn new(alloc: Global, g: &Geometry, layout: &Layout, named: &[bool]) -> Result<Alloc, Memory>
+    pub fn new(
+        alloc: Global,
+        g: &Geometry,
+        layout: &Layout,
+        named: &[bool],
+    ) -> Result<Alloc, Memory>
         requires fits { Fits g.now layout.now }
         requires named { length named.now ≡ zone_count g.now }
         ensures { IfOk result (λ a. IsStart g.now layout.now named.now a) }

@@ -1,5 +1,5 @@
 -- One bit of one word is set.
-use Rattle.std.proofs.Common.{arith, ◌/◌, ◌%◌, get_or-set_same}
+use Rattle.std.proofs.Common.{◌/◌}
 use Rattle.zd_alloc.proofs.FlagLaws.{word_is, raised, raised_there}
 use Rattle.zd_alloc.proofs.words.raise.Goals as goal
 

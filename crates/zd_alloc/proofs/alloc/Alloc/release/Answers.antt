@@ -1,5 +1,5 @@
 -- Sequential zones come behind the conventional ones.
-use Rattle.std.proofs.Common.{◌∙◌, arith}
+use Rattle.std.proofs.Common.{arith}
 use Rattle.zd_alloc.specs.Zones.{released}
 use Rattle.zd_alloc.proofs.DivisionLaws.{left_set, right_set}
 use Rattle.zd_alloc.proofs.alloc.Alloc.release.Goals as goal

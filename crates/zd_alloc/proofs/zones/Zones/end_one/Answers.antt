@@ -1,6 +1,4 @@
 -- The zone was in limbo.
-use Rattle.std.proofs.Common.{ap, ◌∙◌, map}
-use Rattle.zd_alloc.specs.Zones.{after_limbo}
 use Rattle.zd_alloc.proofs.TallyLaws.{kept_ended, limbo_there, limbo_inside, ended_none, ended_one}
 use Rattle.zd_alloc.proofs.zones.Zones.end_one.Goals as goal
 
