@@ -1,4 +1,4 @@
-//! The use of each zone of a volume, and the order in which its chunks were written.
+//! The use of each zone of a volume: which are free, which are held, which wait for a commit.
 #![tactic(auto)]
 
 mod alloc;

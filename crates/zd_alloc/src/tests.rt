@@ -65,3 +65,26 @@ fn a_zone_in_limbo_is_free_once_limbo_has_ended(rt: HostRuntime) -> Result<(), F
     assert_eq!(rt; zones.least_free(Kind::Conventional), Some(ZoneNo(2)));
     Ok(())
 }
+
+/// The layout of the most zones that a disk has: 65,535 conventional and one sequential.
+const GREATEST: Layout = Layout {
+    meta_blocks: 65_538,
+    reserved: 1,
+    chunks: 1,
+    map_blocks: 1,
+    bitmap_blocks: 65_536,
+};
+
+#[test]
+fn all_zones_of_the_greatest_disk(rt: HostRuntime) -> Result<(), Fail> {
+    let named = [false; 65_536];
+    let geometry = Geometry::new(8, 65_535, 1)?;
+    let mut zones = Alloc::new(rt.alloc(), &geometry, &GREATEST, &named)?;
+    for zone in 16_386..65_535 {
+        assert_eq!(rt; take_and_release(&mut zones, false), Some(ZoneNo(zone)));
+        assert_eq!(rt; zones.take_conventional(), Some(ZoneNo(zone)));
+    }
+    assert_eq!(rt; zones.least_free(Kind::Conventional), None);
+    assert_eq!(rt; zones.take_sequential(), Some(ZoneNo(65_535)));
+    Ok(())
+}
