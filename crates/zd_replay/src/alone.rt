@@ -99,9 +99,10 @@ fn session<D: ZonedDisk, K: Sink>(alloc: Global, disk: &mut D, plan: &Plan, out:
 /// Runs the script of one caller over a disk, and writes the report. It hands the disk back.
 ///
 /// So far it answers reads by caller 0 of a volume that nobody wrote, by the first set of metadata.
-/// The status is 0 where all was done, 1 where the words are no command, 2 where the bytes are no script,
-/// 3 where the image is no volume, 4 where the disk failed in opening, 5 where the source failed, 6 where the sink failed and
-/// nothing else was wrong, 7 where no memory was found, and 11 where the run needs what isn't built.
+/// The status is 0 where all was done, 1 where the words are no command, 2 where the bytes are no
+/// script, 3 where the image is no volume, 4 where the disk failed in opening, 5 where the source
+/// failed, 6 where the sink failed and nothing else was wrong, 7 where no memory was found, and 11
+/// where the run needs what isn't built.
 pub fn replay_alone<D: ZonedDisk, S: Source, K: Sink>(
     alloc: Global,
     words: &[String],
