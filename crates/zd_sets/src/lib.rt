@@ -1,0 +1,11 @@
+//! Sets of metadata: their blocks, read from a disk and kept in memory.
+//!
+//! A set is a super block, map blocks and bitmap blocks, of 4096 bytes each, one after another from
+//! the first block of a conventional zone on. A set may take several zones.
+#![tactic(auto)]
+
+mod blocks;
+mod read;
+
+pub use blocks::SetBlocks;
+pub use read::{ReadFault, read_block, read_blocks};
