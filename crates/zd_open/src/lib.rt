@@ -1,0 +1,10 @@
+//! Opening a volume: what the metadata of a disk says, and whether it follows the rules.
+#![tactic(auto)]
+
+mod map;
+mod roles;
+mod tables;
+
+pub use map::first_bad_chunk;
+pub use roles::Role;
+pub use tables::{bits, entry};
