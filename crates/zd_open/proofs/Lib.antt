@@ -1,2 +1,4 @@
 pub mod EntryLaws
 pub mod RoleLaws
+pub mod FindLaws
+pub mod BadLaws
