@@ -1,1 +1,3 @@
 pub mod BlockLaws
+pub mod ChoiceLaws
+pub mod MagicLaws
