@@ -8,7 +8,9 @@ mod blocks;
 mod choice;
 mod head;
 mod read;
+mod write;
 
 pub use blocks::SetBlocks;
 pub use choice::{Chosen, SetFault, choose};
-pub use read::{ReadFault, read_block, read_blocks};
+pub use read::{ReadFault, read_block, read_blocks, read_set};
+pub use write::{write_block, write_super};
