@@ -4,6 +4,7 @@ ghost use Rattle.std.specs.Prelude.{◌≡◌, ◌+◌, ◌<◌, ◌≤◌, ℕ,
 ghost use Rattle.std.specs.Option.{is_some, option_map};
 ghost use Rattle.zd_base.specs.Faults.{HasCause};
 ghost use Rattle.zd_base.specs.Layout.{Fits, set_zones};
+ghost use Rattle.zd_disk.specs.Growth.{Keeps};
 ghost use Rattle.zd_disk.specs.Told.{WhereTold};
 ghost use Rattle.zd_model.specs.Volume.{good_super, greater_of, scanned};
 ghost use Rattle.zd_sets.specs.Choice.{chosen_of, counting, Explains, HasMagicBehind, HasSetCause, IsChoice, IsFound, IsGreater, IsPlaced, NoMagicBehind, StandsAt};
@@ -97,6 +98,7 @@ fn choose_with<D: ZonedDisk>(
     ensures told { D.told disk.new ≡ D.told disk.old }
     ensures zones { D.zones disk.new ≡ D.zones disk.old }
     ensures calls { D.calls disk.new ≡ D.calls disk.old }
+    ensures left { Keeps (D.left disk.old) (D.left disk.new) }
     ensures cause { HasSetCause (D.faults disk.old) (D.faults disk.new) result }
 {
     let n = first.layout.set_zones(geometry);
@@ -117,6 +119,7 @@ fn scanned<D: ZonedDisk>(disk: &mut D, geometry: &Geometry) -> Result<Option<Cho
     ensures told { D.told disk.new ≡ D.told disk.old }
     ensures zones { D.zones disk.new ≡ D.zones disk.old }
     ensures calls { D.calls disk.new ≡ D.calls disk.old }
+    ensures left { Keeps (D.left disk.old) (D.left disk.new) }
     ensures cause { HasCause (D.faults disk.old) (D.faults disk.new) result }
 {
     let Some(zone) = scan(disk, geometry)? else {
@@ -146,6 +149,7 @@ fn has_magic_behind<D: ZonedDisk>(
     ensures told { D.told disk.new ≡ D.told disk.old }
     ensures zones { D.zones disk.new ≡ D.zones disk.old }
     ensures calls { D.calls disk.new ≡ D.calls disk.old }
+    ensures left { Keeps (D.left disk.old) (D.left disk.new) }
     ensures cause { HasCause (D.faults disk.old) (D.faults disk.new) result }
 {
     let _conv = geometry.conv();
@@ -167,6 +171,7 @@ fn choose_without<D: ZonedDisk>(disk: &mut D, geometry: &Geometry) -> Result<Cho
     ensures told { D.told disk.new ≡ D.told disk.old }
     ensures zones { D.zones disk.new ≡ D.zones disk.old }
     ensures calls { D.calls disk.new ≡ D.calls disk.old }
+    ensures left { Keeps (D.left disk.old) (D.left disk.new) }
     ensures cause { HasSetCause (D.faults disk.old) (D.faults disk.new) result }
 {
     let Some(chosen) = scanned(disk, geometry)? else {
@@ -199,6 +204,7 @@ pub fn choose<D: ZonedDisk>(disk: &mut D, geometry: &Geometry) -> Result<Chosen,
     ensures told { D.told disk.new ≡ D.told disk.old }
     ensures zones { D.zones disk.new ≡ D.zones disk.old }
     ensures calls { D.calls disk.new ≡ D.calls disk.old }
+    ensures left { Keeps (D.left disk.old) (D.left disk.new) }
     ensures cause { HasSetCause (D.faults disk.old) (D.faults disk.new) result }
 {
     let _conv = geometry.conv();

@@ -5,6 +5,7 @@ ghost use Rattle.zd_base.specs.Faults.{HasCause};
 ghost use Rattle.zd_model.specs.Image.{block_at};
 ghost use Rattle.zd_model.specs.Super.{decoded};
 ghost use Rattle.zd_model.specs.Volume.{good_super, has_magic, if_own, zone_with_magic};
+ghost use Rattle.zd_disk.specs.Growth.{Keeps};
 ghost use Rattle.zd_disk.specs.Told.{WhereTold};
 ghost use Rattle.zd_sets.specs.Choice.{good_conventional, tells_magic};
 
@@ -27,6 +28,7 @@ fn read_head<D: ZonedDisk>(
     ensures told { D.told disk.new ≡ D.told disk.old }
     ensures zones { D.zones disk.new ≡ D.zones disk.old }
     ensures calls { D.calls disk.new ≡ D.calls disk.old }
+    ensures left { Keeps (D.left disk.old) (D.left disk.new) }
     ensures cause { HasCause (D.faults disk.old) (D.faults disk.new) result }
 {
     let _zone_blocks = geometry.zone_blocks();
@@ -57,6 +59,7 @@ pub fn read_good_super<D: ZonedDisk>(
     ensures told { D.told disk.new ≡ D.told disk.old }
     ensures zones { D.zones disk.new ≡ D.zones disk.old }
     ensures calls { D.calls disk.new ≡ D.calls disk.old }
+    ensures left { Keeps (D.left disk.old) (D.left disk.new) }
     ensures cause { HasCause (D.faults disk.old) (D.faults disk.new) result }
 {
     let own = u64::from(zone.0) * u64::from(geometry.zone_blocks());
@@ -76,6 +79,7 @@ pub fn read_good_conventional<D: ZonedDisk>(
     ensures told { D.told disk.new ≡ D.told disk.old }
     ensures zones { D.zones disk.new ≡ D.zones disk.old }
     ensures calls { D.calls disk.new ≡ D.calls disk.old }
+    ensures left { Keeps (D.left disk.old) (D.left disk.new) }
     ensures cause { HasCause (D.faults disk.old) (D.faults disk.new) result }
 {
     if zone.0 < geometry.conv() {
@@ -105,6 +109,7 @@ pub fn read_magic<D: ZonedDisk>(
     ensures told { D.told disk.new ≡ D.told disk.old }
     ensures zones { D.zones disk.new ≡ D.zones disk.old }
     ensures calls { D.calls disk.new ≡ D.calls disk.old }
+    ensures left { Keeps (D.left disk.old) (D.left disk.new) }
     ensures cause { HasCause (D.faults disk.old) (D.faults disk.new) result }
 {
     let head = read_head(disk, geometry, zone)?;
@@ -120,6 +125,7 @@ pub fn scan<D: ZonedDisk>(disk: &mut D, geometry: &Geometry) -> Result<Option<Zo
     ensures told { D.told disk.new ≡ D.told disk.old }
     ensures zones { D.zones disk.new ≡ D.zones disk.old }
     ensures calls { D.calls disk.new ≡ D.calls disk.old }
+    ensures left { Keeps (D.left disk.old) (D.left disk.new) }
     ensures cause { HasCause (D.faults disk.old) (D.faults disk.new) result }
 {
     for zone in 1..geometry.conv() {

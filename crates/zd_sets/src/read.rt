@@ -3,6 +3,7 @@
 ghost use Rattle.std.specs.Prelude.{◌≡◌, ◌+◌, ◌-◌, ◌*◌, ◌/◌, ◌%◌, ◌<◌, ◌≤◌, ℕ, Some, Err, IfOk, OnOk, length};
 ghost use Rattle.zd_base.specs.Faults.{HasCause};
 ghost use Rattle.zd_model.specs.Image.{block_at, set_block};
+ghost use Rattle.zd_disk.specs.Growth.{Keeps};
 ghost use Rattle.zd_disk.specs.Told.{WhereTold};
 ghost use Rattle.zd_base.specs.Layout.{used_blocks};
 ghost use Rattle.zd_sets.specs.Choice.{IsPlaced};
@@ -40,6 +41,7 @@ pub fn read_block<D: ZonedDisk>(
     ensures told { D.told disk.new ≡ D.told disk.old }
     ensures zones { D.zones disk.new ≡ D.zones disk.old }
     ensures calls { D.calls disk.new ≡ D.calls disk.old }
+    ensures left { Keeps (D.left disk.old) (D.left disk.new) }
     ensures cause { HasCause (D.faults disk.old) (D.faults disk.new) result }
 {
     let _conv = geometry.conv();
@@ -62,6 +64,7 @@ fn read_set_block<D: ZonedDisk>(
     ensures told { D.told disk.new ≡ D.told disk.old }
     ensures zones { D.zones disk.new ≡ D.zones disk.old }
     ensures calls { D.calls disk.new ≡ D.calls disk.old }
+    ensures left { Keeps (D.left disk.old) (D.left disk.new) }
     ensures cause { HasCause (D.faults disk.old) (D.faults disk.new) result }
 {
     let zone_blocks = geometry.zone_blocks();
@@ -87,6 +90,7 @@ fn fill_block<D: ZonedDisk>(
     ensures told { D.told disk.new ≡ D.told disk.old }
     ensures zones { D.zones disk.new ≡ D.zones disk.old }
     ensures calls { D.calls disk.new ≡ D.calls disk.old }
+    ensures left { Keeps (D.left disk.old) (D.left disk.new) }
     ensures cause { HasCause (D.faults disk.old) (D.faults disk.new) result }
 {
     let start = BLOCK * i as usize;
@@ -109,6 +113,7 @@ fn fill<D: ZonedDisk>(
     ensures told { D.told disk.new ≡ D.told disk.old }
     ensures zones { D.zones disk.new ≡ D.zones disk.old }
     ensures calls { D.calls disk.new ≡ D.calls disk.old }
+    ensures left { Keeps (D.left disk.old) (D.left disk.new) }
     ensures cause { HasCause (D.faults disk.old) (D.faults disk.new) result }
 {
     for i in 0..count {
@@ -134,6 +139,7 @@ pub fn read_blocks<D: ZonedDisk>(
     ensures told { D.told disk.new ≡ D.told disk.old }
     ensures zones { D.zones disk.new ≡ D.zones disk.old }
     ensures calls { D.calls disk.new ≡ D.calls disk.old }
+    ensures left { Keeps (D.left disk.old) (D.left disk.new) }
     ensures cause { HasReadCause (D.faults disk.old) (D.faults disk.new) result }
 {
     let Ok(mut bytes) = vec![in alloc; 0u8; BLOCK * count as usize] else {
@@ -161,6 +167,7 @@ pub fn read_set<D: ZonedDisk>(
     ensures told { D.told disk.new ≡ D.told disk.old }
     ensures zones { D.zones disk.new ≡ D.zones disk.old }
     ensures calls { D.calls disk.new ≡ D.calls disk.old }
+    ensures left { Keeps (D.left disk.old) (D.left disk.new) }
     ensures cause { HasReadCause (D.faults disk.old) (D.faults disk.new) result }
 {
     let used = chosen.head.layout.used_blocks(geometry);
