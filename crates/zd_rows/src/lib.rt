@@ -20,3 +20,5 @@ mod reads;
 mod refusals;
 #[cfg(test)]
 mod run;
+#[cfg(test)]
+mod sets;

@@ -1,1 +1,4 @@
 pub mod BlockLaws
+pub mod ChoiceLaws
+pub mod MagicLaws
+pub mod WriteLaws

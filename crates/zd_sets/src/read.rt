@@ -3,10 +3,13 @@
 ghost use Rattle.std.specs.Prelude.{◌≡◌, ◌+◌, ◌-◌, ◌*◌, ◌/◌, ◌%◌, ◌<◌, ◌≤◌, ℕ, Some, Err, IfOk, OnOk, length};
 ghost use Rattle.zd_base.specs.Faults.{HasCause};
 ghost use Rattle.zd_model.specs.Image.{block_at, set_block};
+ghost use Rattle.zd_disk.specs.Growth.{Keeps};
 ghost use Rattle.zd_disk.specs.Told.{WhereTold};
+ghost use Rattle.zd_base.specs.Layout.{used_blocks};
+ghost use Rattle.zd_sets.specs.Choice.{IsPlaced};
 ghost use Rattle.zd_sets.specs.Blocks.{blocks_of, AreBlocks, HasReadCause};
 
-use crate::SetBlocks;
+use crate::{Chosen, SetBlocks};
 use std::alloc::Global;
 use zd_base::{BLOCK, Failed, Geometry, ZoneNo};
 use zd_disk::ZonedDisk;
@@ -38,6 +41,7 @@ pub fn read_block<D: ZonedDisk>(
     ensures told { D.told disk.new ≡ D.told disk.old }
     ensures zones { D.zones disk.new ≡ D.zones disk.old }
     ensures calls { D.calls disk.new ≡ D.calls disk.old }
+    ensures left { Keeps (D.left disk.old) (D.left disk.new) }
     ensures cause { HasCause (D.faults disk.old) (D.faults disk.new) result }
 {
     let _conv = geometry.conv();
@@ -60,6 +64,7 @@ fn read_set_block<D: ZonedDisk>(
     ensures told { D.told disk.new ≡ D.told disk.old }
     ensures zones { D.zones disk.new ≡ D.zones disk.old }
     ensures calls { D.calls disk.new ≡ D.calls disk.old }
+    ensures left { Keeps (D.left disk.old) (D.left disk.new) }
     ensures cause { HasCause (D.faults disk.old) (D.faults disk.new) result }
 {
     let zone_blocks = geometry.zone_blocks();
@@ -85,6 +90,7 @@ fn fill_block<D: ZonedDisk>(
     ensures told { D.told disk.new ≡ D.told disk.old }
     ensures zones { D.zones disk.new ≡ D.zones disk.old }
     ensures calls { D.calls disk.new ≡ D.calls disk.old }
+    ensures left { Keeps (D.left disk.old) (D.left disk.new) }
     ensures cause { HasCause (D.faults disk.old) (D.faults disk.new) result }
 {
     let start = BLOCK * i as usize;
@@ -107,6 +113,7 @@ fn fill<D: ZonedDisk>(
     ensures told { D.told disk.new ≡ D.told disk.old }
     ensures zones { D.zones disk.new ≡ D.zones disk.old }
     ensures calls { D.calls disk.new ≡ D.calls disk.old }
+    ensures left { Keeps (D.left disk.old) (D.left disk.new) }
     ensures cause { HasCause (D.faults disk.old) (D.faults disk.new) result }
 {
     for i in 0..count {
@@ -132,6 +139,7 @@ pub fn read_blocks<D: ZonedDisk>(
     ensures told { D.told disk.new ≡ D.told disk.old }
     ensures zones { D.zones disk.new ≡ D.zones disk.old }
     ensures calls { D.calls disk.new ≡ D.calls disk.old }
+    ensures left { Keeps (D.left disk.old) (D.left disk.new) }
     ensures cause { HasReadCause (D.faults disk.old) (D.faults disk.new) result }
 {
     let Ok(mut bytes) = vec![in alloc; 0u8; BLOCK * count as usize] else {
@@ -141,4 +149,27 @@ pub fn read_blocks<D: ZonedDisk>(
         Ok(()) => Ok(SetBlocks::from_bytes(bytes)),
         Err(Failed) => Err(ReadFault::Device),
     }
+}
+
+/// The used blocks of the chosen set, each read by one call of the disk.
+pub fn read_set<D: ZonedDisk>(
+    alloc: Global,
+    disk: &mut D,
+    geometry: &Geometry,
+    chosen: &Chosen,
+) -> Result<SetBlocks, ReadFault>
+    requires told { D.told disk.old ≡ Some geometry.now }
+    requires placed { IsPlaced geometry.now chosen.now }
+    ensures size { IfOk result (λ blocks.
+        length blocks ≡ 4096 * used_blocks geometry.now chosen.now.head.layout) }
+    ensures value { IfOk result (λ blocks. WhereTold (D.zones disk.old) (λ image.
+        AreBlocks image chosen.now.zone (used_blocks geometry.now chosen.now.head.layout) blocks)) }
+    ensures told { D.told disk.new ≡ D.told disk.old }
+    ensures zones { D.zones disk.new ≡ D.zones disk.old }
+    ensures calls { D.calls disk.new ≡ D.calls disk.old }
+    ensures left { Keeps (D.left disk.old) (D.left disk.new) }
+    ensures cause { HasReadCause (D.faults disk.old) (D.faults disk.new) result }
+{
+    let used = chosen.head.layout.used_blocks(geometry);
+    read_blocks(alloc, disk, geometry, chosen.zone, used)
 }

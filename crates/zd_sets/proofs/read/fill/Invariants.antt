@@ -1,5 +1,6 @@
 use Rattle.std.proofs.Common.{◌≡◌, ◌≤◌, ◌<◌, ◌*◌, ℕ, length}
 use Rattle.zd_model.specs.Image.{set_block}
+use Rattle.zd_disk.specs.Growth.{Keeps}
 use Rattle.zd_disk.specs.Told.{WhereTold}
 use Rattle.zd_sets.specs.Blocks.{blocks_of}
 use Rattle.zd_sets.proofs.read.fill.Given as goal
@@ -13,6 +14,7 @@ invariant-loop-i g l =
       told : d.told l.disk ≡ d.told l.fn.disk;
       zones : d.zones l.disk ≡ d.zones l.fn.disk;
       calls : d.calls l.disk ≡ d.calls l.fn.disk;
+      left : Keeps (d.left l.fn.disk) (d.left l.disk);
       later : d.faults l.fn.disk ≤ d.faults l.disk;
       read : WhereTold (d.zones l.fn.disk) (λ image.
           (j : ℕ) → j < l.i → blocks_of l.into j 1 ≡ set_block image l.first j);
