@@ -2,3 +2,4 @@ pub mod EntryLaws
 pub mod RoleLaws
 pub mod FindLaws
 pub mod BadLaws
+pub mod OpenLaws

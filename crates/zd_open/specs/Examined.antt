@@ -1,0 +1,68 @@
+-- What an examined disk is found to be.
+use Rattle.std.specs.Prelude.{◌≡◌, ℕ, ◌<◌, ◌≤◌, List, [], length, slice_index, Some, None, Result, Err}
+use Rattle.std.specs.Option.{is_some}
+use Rattle.zd_base.specs.Faults.{Rose}
+use Rattle.zd_base.specs.Geometry.{Shape, zone_count}
+use Rattle.zd_base.specs.Layout.{used_blocks}
+use Rattle.zd_base.specs.declared.layout.Layout.{Layout as Sizes}
+use Rattle.zd_model.specs.Faults.{bad_bit, bad_chunk}
+use Rattle.zd_model.specs.Image.{Image as Disk}
+use Rattle.zd_model.specs.Volume.{Chosen as Set, IsWellFormed, chosen, good_super, tables_of}
+use Rattle.zd_sets.specs.Blocks.{AreBlocks}
+use Rattle.zd_sets.specs.Choice.{IsMisplaced, chosen_of}
+use Rattle.zd_sets.specs.declared.choice.Chosen.{Chosen}
+use Rattle.zd_open.specs.Tables.{entries_in, tables_in}
+use Rattle.zd_open.specs.declared.examining.OpenFault.{OpenFault}
+use Rattle.zd_open.specs.declared.examining.OpenFault.TheVariants.{NoSuperBlock, Layout, BadMap, BadBits, Device, Memory}
+
+-- the pointers of the sequential zones, in sectors; those of conventional zones are 0
+pub record ArePointers (disk : Disk) (pointers : List ℕ) : Type 0 where
+  pub count : length pointers ≡ zone_count disk.geometry
+  pub conventional : (z : ℕ) → z < disk.geometry.conv → slice_index pointers z ≡ 0
+  pub sequential : (z : ℕ) → disk.geometry.conv ≤ z → z < zone_count disk.geometry →
+      slice_index pointers z ≡ disk.held z
+
+-- a well-formed image, with its chosen set, the used blocks of this set, and the pointers
+pub record IsExamined (g : Shape) (c : Chosen) (bytes reported : List ℕ) (disk : Disk) : Type 0 where
+  pub geometry : g ≡ disk.geometry
+  pub well_formed : IsWellFormed disk (chosen_of c)
+  pub other_good : c.other_good ≡ is_some (good_super disk c.other)
+  pub blocks : AreBlocks disk c.zone (used_blocks disk.geometry c.head.layout) bytes
+  pub pointers : ArePointers disk reported
+
+-- a set is chosen where it may be, and its tables are these
+abbrev pub IsPlacedSet : Disk → Set → Type 0
+IsPlacedSet disk c = (chosen disk ≡ Some c) × (IsMisplaced disk c → ⊥)
+
+-- why an image is no volume, the first rule that it breaks
+abbrev pub Explains : OpenFault → Disk → Type 0
+Explains NoSuperBlock disk = chosen disk ≡ None
+Explains Layout disk = (c : Set) × (chosen disk ≡ Some c) × IsMisplaced disk c
+Explains (BadMap chunk) disk = (c : Set) × IsPlacedSet disk c
+    × (bad_chunk disk.geometry c.head.layout [] 0 (tables_of disk c).entries ≡ Some chunk)
+Explains (BadBits zone block) disk = (c : Set) × IsPlacedSet disk c
+    × (bad_chunk disk.geometry c.head.layout [] 0 (tables_of disk c).entries ≡ None)
+    × (bad_bit disk.geometry disk.held (tables_of disk c) ≡ Some (zone, block))
+Explains Device disk = Unit {0}
+Explains Memory disk = Unit {0}
+
+-- the tables in the blocks of a set follow the rules of map and bitmaps
+pub record FollowsRules (g : Shape) (l : Sizes) (reported bytes : List ℕ) : Type 0 where
+  pub map : bad_chunk g l [] 0 (entries_in l bytes) ≡ None
+  pub bits : bad_bit g (slice_index reported) (tables_in g l bytes) ≡ None
+
+-- which rule they break first, where that is the fault
+abbrev pub BreaksRule : Shape → Sizes → List ℕ → List ℕ → OpenFault → Type 0
+BreaksRule g l reported bytes NoSuperBlock = ⊥
+BreaksRule g l reported bytes Layout = ⊥
+BreaksRule g l reported bytes (BadMap chunk) = bad_chunk g l [] 0 (entries_in l bytes) ≡ Some chunk
+BreaksRule g l reported bytes (BadBits zone block) =
+    (bad_chunk g l [] 0 (entries_in l bytes) ≡ None)
+    × (bad_bit g (slice_index reported) (tables_in g l bytes) ≡ Some (zone, block))
+BreaksRule g l reported bytes Device = ⊥
+BreaksRule g l reported bytes Memory = Unit {0}
+
+-- the count of the disk's faults never falls, and rose where a call of the disk decided
+pub record HasDeviceCause {T : Type 0} (before now : ℕ) (result : Result T OpenFault) : Type 0 where
+  pub later : before ≤ now
+  pub device : result ≡ Err Device → Rose before now
