@@ -6,6 +6,7 @@
 
 mod blocks;
 mod choice;
+mod equal;
 mod head;
 mod read;
 mod write;

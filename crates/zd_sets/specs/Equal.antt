@@ -1,0 +1,49 @@
+-- The other set made equal to the chosen one.
+use Rattle.std.specs.Prelude.{◌≡◌, ℕ, ◌+◌, ◌*◌, ◌/◌, ◌%◌, ◌<◌, ◌≤◌, List}
+use Rattle.zd_base.specs.Geometry.{Shape}
+use Rattle.zd_model.specs.Image.{Image, SameZone, block_at, set_block}
+use Rattle.zd_model.specs.Super.{block_of}
+use Rattle.zd_model.specs.declared.metadata.Super.{Super}
+use Rattle.zd_sets.specs.Blocks.{blocks_of}
+
+-- new is old but for blocks at such places of conventional zones
+pub record OnlyAt (At : ℕ → ℕ → Type 0) (old new : Image) : Type 0 where
+  pub geometry : new.geometry ≡ old.geometry
+  pub sequential : (z : ℕ) → old.geometry.conv ≤ z → SameZone old new z
+  pub elsewhere : (z x : ℕ) → z < old.geometry.conv → x < old.geometry.zone_blocks → (At z x → ⊥) →
+      block_at new z x ≡ block_at old z x
+
+-- the places of the blocks of the set that begins in zone `first`, from block `from` up to block `end`
+abbrev pub InSet : Shape → ℕ → ℕ → ℕ → ℕ → ℕ → Type 0
+InSet g first from end z x =
+    (k : ℕ) × (from ≤ k) × (k < end) × (z ≡ first + k / g.zone_blocks) × (x ≡ k % g.zone_blocks)
+
+-- block i of the set is this one, and no other block changed
+pub record HasBlock (g : Shape) (first i : ℕ) (block : List ℕ) (old new : Image) : Type 0 where
+  pub only : OnlyAt (InSet g first i (i + 1)) old new
+  pub block_is : set_block new first i ≡ block
+
+-- the blocks of the set from block `from` up to block `end` are those of these bytes, and no other
+-- block changed
+pub record HasBlocks (g : Shape) (first from end : ℕ) (bytes : List ℕ) (old new : Image) : Type 0 where
+  pub only : OnlyAt (InSet g first from end) old new
+  pub each : (k : ℕ) → from ≤ k → k < end → set_block new first k ≡ blocks_of bytes k 1
+
+-- the head with the own number of a super block in this zone
+abbrev pub head_at : Shape → ℕ → Super → Super
+head_at g zone head = record {
+  generation = head.generation;
+  own = zone * g.zone_blocks;
+  layout = head.layout;
+  label = head.label;
+  volume = head.volume;
+  device = head.device;
+}
+
+-- the set that begins in zone `first` has the super block of this head, with its own number, and the
+-- other blocks of these bytes up to block `end`; no block of the disk changed but those of the set
+pub record IsMadeEqual (g : Shape) (first end : ℕ) (head : Super) (bytes : List ℕ) (old new : Image)
+    : Type 0 where
+  pub only : OnlyAt (InSet g first 0 end) old new
+  pub super : set_block new first 0 ≡ block_of (head_at g first head)
+  pub each : (k : ℕ) → 1 ≤ k → k < end → set_block new first k ≡ blocks_of bytes k 1
