@@ -1,10 +1,12 @@
 -- The other set made equal to the chosen one.
-use Rattle.std.specs.Prelude.{◌≡◌, ℕ, ◌+◌, ◌*◌, ◌/◌, ◌%◌, ◌<◌, ◌≤◌, List}
+use Rattle.std.specs.Prelude.{◌≡◌, ℕ, ◌+◌, ◌*◌, ◌/◌, ◌%◌, ◌<◌, ◌≤◌, List, Bool, true, false, Some}
 use Rattle.zd_base.specs.Geometry.{Shape}
 use Rattle.zd_model.specs.Image.{Image, SameZone, block_at, set_block}
-use Rattle.zd_model.specs.Super.{block_of}
+use Rattle.zd_model.specs.Bytes.{zero_sector}
+use Rattle.zd_model.specs.Volume.{good_super}
 use Rattle.zd_model.specs.declared.metadata.Super.{Super}
 use Rattle.zd_sets.specs.Blocks.{blocks_of}
+use Rattle.zd_sets.specs.declared.choice.Chosen.{Chosen as Choice}
 
 -- new is old but for blocks at such places of conventional zones
 pub record OnlyAt (At : ℕ → ℕ → Type 0) (old new : Image) : Type 0 where
@@ -40,10 +42,21 @@ head_at g zone head = record {
   device = head.device;
 }
 
--- the set that begins in zone `first` has the super block of this head, with its own number, and the
--- other blocks of these bytes up to block `end`; no block of the disk changed but those of the set
-pub record IsMadeEqual (g : Shape) (first end : ℕ) (head : Super) (bytes : List ℕ) (old new : Image)
-    : Type 0 where
-  pub only : OnlyAt (InSet g first 0 end) old new
-  pub super : set_block new first 0 ≡ block_of (head_at g first head)
-  pub each : (k : ℕ) → 1 ≤ k → k < end → set_block new first k ≡ blocks_of bytes k 1
+-- the super block of a zone is good, with the fields of this head, and no other block changed
+pub record HasSuper (g : Shape) (zone : ℕ) (head : Super) (old new : Image) : Type 0 where
+  pub only : OnlyAt (InSet g zone 0 1) old new
+  pub super : good_super new zone ≡ Some (head_at g zone head)
+
+-- the other set has a good super block with the fields of the chosen one and its own number, and
+-- otherwise the used blocks of the chosen set, up to block `end`; no other block changed
+pub record IsMadeEqual (g : Shape) (c : Choice) (end : ℕ) (old new : Image) : Type 0 where
+  pub only : OnlyAt (InSet g c.other 0 end) old new
+  pub super : good_super new c.other ≡ Some (head_at g c.other c.head)
+  pub each : (k : ℕ) → 1 ≤ k → k < end → set_block new c.other k ≡ set_block old c.zone k
+  pub kept : (k : ℕ) → k < end → set_block new c.zone k ≡ set_block old c.zone k
+
+-- the first sector of a zone is zeros where its super block is bad, and no block changed but its first
+pub record IsCleared (g : Shape) (zone : ℕ) (good : Bool) (old new : Image) : Type 0 where
+  pub only : OnlyAt (InSet g zone 0 1) old new
+  pub zeros : good ≡ false → new.sector zone 0 ≡ zero_sector
+  pub same : good ≡ true → block_at new zone 0 ≡ block_at old zone 0

@@ -1,0 +1,29 @@
+use Rattle.std.proofs.Common.{ℕ, sym, ◌∙◌, subst, arith}
+use Rattle.std.proofs.lemmas.Result.{on_ok_weaker}
+use Rattle.zd_base.specs.Layout.{used_blocks}
+use Rattle.zd_model.specs.Image.{Image}
+use Rattle.zd_disk.proofs.ToldLaws.{Some-same}
+use Rattle.zd_disk.specs.Told.{Both}
+use Rattle.zd_sets.specs.Equal.{HasBlocks, HasSuper, IsCleared, IsMadeEqual}
+use Rattle.zd_sets.proofs.EqualLaws.{Both-then, made_equal}
+use Rattle.zd_sets.proofs.equal.make_equal.Goals as goal
+
+pub returns-clause-ok : goal.returns-clause-ok
+returns-clause-ok g c =
+    let d = g.met.D.ZonedDisk in
+    let size = c.zone_blocks-zone_blocks.ensures.shape.size.least in
+    let shape = c.args.geometry.now in
+    let chosen = c.args.chosen.now in
+    let bytes = c.args.blocks.now in
+    let end : ℕ = used_blocks shape chosen.head.layout in
+    let copied = subst (λ (n : ℕ). Both (g.D.ZonedDisk.zones c.clear_bad.new.disk) (g.D.ZonedDisk.zones c.copy_blocks.new.disk) (HasBlocks shape chosen.other 1 n bytes)) c.used_blocks-used.ensures c.in_ok-copy_blocks.ensures.ok in
+    let two = Both-then _ _ _ (IsCleared shape chosen.other chosen.other_good) (HasBlocks shape chosen.other 1 (used_blocks shape chosen.head.layout) bytes)
+    (λ a k. (b : Image) × IsCleared shape chosen.other chosen.other_good a b × HasBlocks shape chosen.other 1 (used_blocks shape chosen.head.layout) bytes b k)
+    (λ a b k e m clear blocks. (b, clear, blocks)) c.in_ok-clear_bad.ensures.ok copied in
+    on_ok_weaker c.put_super.result (Both-then _ _ _
+    (λ a k. (b : Image) × IsCleared shape chosen.other chosen.other_good a b × HasBlocks shape chosen.other 1 (used_blocks shape chosen.head.layout) bytes b k)
+    (HasSuper shape chosen.other chosen.head) (IsMadeEqual shape chosen (used_blocks shape chosen.head.layout))
+    (λ old middle new e m before put.
+    let told = Some-same _ _ (sym (d.agrees c.args.disk.now old e) ∙ c.requires.told) in
+    made_equal shape chosen bytes c.requires.placed (omega arith) old before.0 middle new told (c.requires.blocks old e) before.1 before.2 put)
+    two) c.put_super.ensures.ok
