@@ -1,26 +1,29 @@
 -- Steps by which a set becomes equal to another, one after another.
-use Rattle.std.proofs.Common.{◌≡◌, ◌≢◌, Option, Some, None, Result, Ok, Err, OnOk, ℕ, ◌+◌, ◌*◌, ◌/◌, ◌%◌, ◌<◌, ◌≤◌, List, length, inl, inr, Bool, true, false, cond, replicate, refl, sym, ap, ap₂, ◌∙◌, subst, arith}
+use Rattle.std.proofs.Common.{◌≡◌, ◌≢◌, Option, Some, None, Result, Ok, Err, OnOk, ℕ, ◌+◌, ◌*◌, ◌/◌, ◌%◌, ◌^◌, ◌-◌, IfSome, ◌<◌, ◌≤◌, List, ◌++◌, length, take, is_some, inl, inr, Bool, true, false, cond, replicate, refl, sym, ap, ap₂, ◌∙◌, subst, arith}
 use Rattle.std.proofs.lemmas.Bool.{cases_eq, cases_lt, eq-eqb}
 use Rattle.std.proofs.lemmas.List.{length-replicate, take_all}
+use Rattle.std.proofs.Math.Seq.{take-append_seam}
 use Rattle.std.proofs.Math.Nat.{mul-le-mul_left, zero-div, zero-mod}
 use Rattle.zd_base.specs.Geometry.{Shape}
 use Rattle.zd_base.specs.Layout.{Fits, set_zones, used_blocks}
 use Rattle.zd_base.specs.declared.layout.Layout.{Layout}
-use Rattle.zd_model.specs.Image.{Image, IsImage, Same, block_at, set_block}
+use Rattle.zd_model.specs.Image.{Image, IsImage, Same, block_at, run_of, set_block}
 use Rattle.zd_model.specs.Bytes.{zero_sector}
 use Rattle.zd_model.specs.Super.{HasSizes, block_of, decoded}
 use Rattle.zd_model.specs.Volume.{good_super, if_own}
 use Rattle.zd_model.specs.declared.metadata.Super.{Super}
+use Rattle.zd_model.proofs.SectorLaws.{length-zero_sector}
 use Rattle.zd_model.proofs.Decoded.{decodes}
 use Rattle.zd_model.proofs.EventLaws.{SameZone-refl, SameZone-trans}
 use Rattle.zd_model.proofs.SuperSpelling.{spells}
 use Rattle.zd_model.proofs.SameLaws.{same_block, same_run}
+use Rattle.zd_disk.proofs.ToldLaws.{Both-new, IfSome-at}
 use Rattle.zd_disk.specs.Steps.{Wrote, count_of, piece}
 use Rattle.zd_disk.specs.Told.{Both}
 use Rattle.zd_sets.specs.Blocks.{AreBlocks, blocks_of}
 use Rattle.zd_sets.specs.Choice.{IsPlaced}
 use Rattle.zd_sets.specs.declared.choice.Chosen.{Chosen as Choice}
-use Rattle.zd_sets.specs.Equal.{HasBlock, HasBlocks, HasSuper, InSet, IsCleared, IsMadeEqual, OnlyAt, head_at}
+use Rattle.zd_sets.specs.Equal.{HasBlock, HasBlocks, HasSuper, InSet, IsCleared, IsDurable, IsMadeEqual, IsReady, OnlyAt, head_at}
 use Rattle.zd_sets.specs.Writes.{WroteBlock}
 
 pub only_same : (P : ℕ → ℕ → Type 0) (a : Image) → OnlyAt P a a
@@ -200,6 +203,13 @@ zero_piece : piece (replicate 512 0) 0 ≡ zero_sector
 unfolding zero_sector
 zero_piece = take_all 512 (replicate {A = ℕ} 512 0) (omega (arith, length-replicate {A = ℕ} 512 0))
 
+front_sector : (image : Image) (zone : ℕ) → image.sector zone 0 ≡ zero_sector → take 512 (block_at image zone 0) ≡ zero_sector
+front_sector image zone e =
+    let size = length-zero_sector in
+    ap (λ (s : List ℕ). take 512 (s ++ run_of (image.sector zone) 1 7)) e
+    ∙ ap (λ (n : ℕ). take n (zero_sector ++ run_of (image.sector zone) 1 7)) (sym size)
+    ∙ take-append_seam zero_sector (run_of (image.sector zone) 1 7)
+
 -- the first sector is zeros, and a flush leaves it so
 pub cleared : (g : Shape) (zone : ℕ) (good : Bool) (a b c : Image) → a.geometry ≡ g → IsImage a → IsImage b → zone < g.conv
     → 0 < g.zone_blocks → good ≡ false → Wrote zone 0 (replicate 512 0) a b → Same b c → IsCleared g zone good a c
@@ -214,7 +224,7 @@ cleared g zone good a b c shape first image low some bad w same =
           (only_more (λ z k. (z ≡ zone) × (k ≡ 0)) (InSet g zone 0 1) a b (at_front g zone)
           (wrote_only a b first zone 0 1 (replicate 512 0) (omega (arith, conv)) (omega (arith, size)) (omega (arith, count)) (omega arith) w))
           (same_only (InSet g zone 0 1) b c image same);
-      zeros = λ e. (same.zones zone).sectors 0 (omega (arith, full, blocks, size)) ∙ w.zone.put 0 (omega (arith, count)) ∙ zero_piece;
+      zeros = λ e. front_sector c zone ((same.zones zone).sectors 0 (omega (arith, full, blocks, size)) ∙ w.zone.put 0 (omega (arith, count)) ∙ zero_piece);
       same = λ e. absurd (let f : true ≡ false = sym e ∙ bad in cc);
     }
 
@@ -238,6 +248,11 @@ super_put g zone head a b c shape first image low some sizes w same =
           (first_block c zone ∙ same_block b c image same zone 0 (omega (arith, there)) (omega (arith, blocks)) ∙ w.put)
           sizes (ap (λ (s : Shape). zone * s.zone_blocks) (sym (same.geometry ∙ here)));
     }
+
+same_good : (a b : Image) (zone : ℕ) → b.geometry ≡ a.geometry → block_at b zone 0 ≡ block_at a zone 0
+    → good_super b zone ≡ good_super a zone
+same_good a b zone geometry block =
+    ap₂ (λ (n : ℕ) (bytes : List ℕ). if_own (zone * n) (decoded bytes)) (ap (λ (s : Shape). s.zone_blocks) geometry) block
 
 -- a used block lies in the zones of its set
 in_zones : (g : Shape) (l : Layout) → Fits g l → 0 < g.zone_blocks → (k : ℕ) → k < used_blocks g l → k / g.zone_blocks < set_zones g l
@@ -270,6 +285,12 @@ module _ (g : Shape) (choice : Choice) (bytes : List ℕ) (placed : IsPlaced g c
       let room = placed.fits.conventional_data in
       elim placed.places [ inl p ↦ omega (arith, p.1) | inr p ↦ omega (arith, p.1) ]
 
+  -- a block behind the first doesn't stand at its place
+  front_apart : (end : ℕ) → InSet g choice.other 1 end (choice.other + 0 / g.zone_blocks) (0 % g.zone_blocks) → ⊥
+  front_apart end at =
+      let e : 0 ≡ at.0 = same_place g.zone_blocks 0 at.0 some (omega (arith, at.3)) at.4 in
+      absurd (omega (arith, at.1, e))
+
   -- the three steps, one after another
   pub made_equal : (a b c d : Image) → a.geometry ≡ g → AreBlocks a choice.zone (used_blocks g choice.head.layout) bytes
       → IsCleared g choice.other choice.other_good a b
@@ -291,3 +312,59 @@ module _ (g : Shape) (choice : Choice) (bytes : List ℕ) (placed : IsPlaced g c
             ∙ copied.each k above below ∙ blocks.each k below;
         kept = λ k below. set_still g choice.zone (InSet g choice.other 0 end) a d some shape all k (here_inside k below) (sets_apart 0 k below);
       }
+
+  -- after the first two steps the super block may be written
+  pub ready : (a b c : Image) → a.geometry ≡ g → AreBlocks a choice.zone (used_blocks g choice.head.layout) bytes
+      → choice.other_good ≡ is_some (good_super a choice.other) → IsCleared g choice.other choice.other_good a b
+      → HasBlocks g choice.other 1 (used_blocks g choice.head.layout) bytes b c
+      → IsReady choice (used_blocks g choice.head.layout) c
+  ready a b c shape blocks good clear copied =
+      let end : ℕ = used_blocks g choice.head.layout in
+      let ab = only_more (InSet g choice.other 0 1) (InSet g choice.other 0 end) a b (λ z x p. (p.0, p.1, omega (arith, p.2), p.3, p.4)) clear.only in
+      let bc = only_more (InSet g choice.other 1 end) (InSet g choice.other 0 end) b c (λ z x p. (p.0, omega arith, p.2, p.3, p.4)) copied.only in
+      let ac = only_then (InSet g choice.other 0 end) a b c ab bc in
+      let here = clear.only.geometry ∙ shape in
+      let front : block_at c choice.other 0 ≡ block_at b choice.other 0 =
+      sym (first_block c choice.other)
+      ∙ set_still g choice.other (InSet g choice.other 1 end) b c some here copied.only 0 (there_inside 0 (omega arith)) (front_apart end)
+      ∙ first_block b choice.other in
+      record {
+        each = λ k above below. copied.each k above below ∙ blocks.each k below
+            ∙ sym (set_still g choice.zone (InSet g choice.other 0 end) a c some shape ac k (here_inside k below) (sets_apart 0 k below));
+        good = λ e. ap (λ (o : Option Super). is_some o) (same_good a c choice.other ac.geometry (front ∙ clear.same e)) ∙ sym good ∙ e;
+        zeros = λ e. ap (λ (block : List ℕ). take 512 block) front ∙ clear.zeros e;
+      }
+
+  -- and so in an image that holds the same
+  pub still_ready : (c d : Image) → c.geometry ≡ g → IsImage c → Same c d → IsReady choice (used_blocks g choice.head.layout) c
+      → IsReady choice (used_blocks g choice.head.layout) d
+  still_ready c d shape image same h =
+      let conv = ap (λ (s : Shape). s.conv) shape in
+      let size = ap (λ (s : Shape). s.zone_blocks) shape in
+      let low = placed.other in
+      let front = same_block c d image same choice.other 0 (omega (arith, conv)) (omega (arith, size)) in
+      record {
+        each = λ k above below.
+            still g choice.other some c c d shape image same shape k (there_inside k below) ∙ h.each k above below
+            ∙ sym (still g choice.zone some c c d shape image same shape k (here_inside k below));
+        good = λ e. ap (λ (o : Option Super). is_some o) (same_good c d choice.other same.geometry front) ∙ h.good e;
+        zeros = λ e. ap (λ (block : List ℕ). take 512 block) front ∙ h.zeros e;
+      }
+
+across : (a b c : Image) → Same a b → Same a c → Same b c
+across a b c h k = record {
+  geometry = k.geometry ∙ sym h.geometry;
+  zones = λ z. record {
+    held = (k.zones z).held ∙ sym (h.zones z).held;
+    sectors = λ i low. let held = (h.zones z).held in
+        let inside : i < a.held z = omega arith in
+        (k.zones z).sectors i inside ∙ sym ((h.zones z).sectors i inside);
+  };
+}
+
+-- what a flush makes last is what the disk then reads as
+pub durable_new : (o n : Option Image) (calls : ℕ) (left : ℕ → Image → Type 0) → Both o n Same
+    → (calls < 2 ^ 64 - 1 → IfSome o (λ i. (c : Image) → left calls c → Same i c)) → IsDurable n calls left
+durable_new o n calls left both last low image e other can =
+    let from = Both-new o n Same image both e in
+    across from.0 image other from.2 (IfSome-at o from.0 (λ i. (c : Image) → left calls c → Same i c) from.1 (last low) other can)

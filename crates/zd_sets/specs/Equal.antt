@@ -1,10 +1,11 @@
 -- The other set made equal to the chosen one.
-use Rattle.std.specs.Prelude.{◌≡◌, ℕ, ◌+◌, ◌*◌, ◌/◌, ◌%◌, ◌<◌, ◌≤◌, List, Bool, true, false, Some}
+use Rattle.std.specs.Prelude.{◌≡◌, ℕ, ◌+◌, ◌*◌, ◌/◌, ◌%◌, ◌^◌, ◌-◌, ◌<◌, ◌≤◌, List, take, Option, is_some, Bool, true, false, Some}
 use Rattle.zd_base.specs.Geometry.{Shape}
-use Rattle.zd_model.specs.Image.{Image, SameZone, block_at, set_block}
+use Rattle.zd_model.specs.Image.{Image, Same, SameZone, block_at, set_block}
 use Rattle.zd_model.specs.Bytes.{zero_sector}
 use Rattle.zd_model.specs.Volume.{good_super}
 use Rattle.zd_model.specs.declared.metadata.Super.{Super}
+use Rattle.zd_disk.specs.Told.{WhereTold}
 use Rattle.zd_sets.specs.Blocks.{blocks_of}
 use Rattle.zd_sets.specs.declared.choice.Chosen.{Chosen as Choice}
 
@@ -58,5 +59,22 @@ pub record IsMadeEqual (g : Shape) (c : Choice) (end : ℕ) (old new : Image) : 
 -- the first sector of a zone is zeros where its super block is bad, and no block changed but its first
 pub record IsCleared (g : Shape) (zone : ℕ) (good : Bool) (old new : Image) : Type 0 where
   pub only : OnlyAt (InSet g zone 0 1) old new
-  pub zeros : good ≡ false → new.sector zone 0 ≡ zero_sector
+  pub zeros : good ≡ false → take 512 (block_at new zone 0) ≡ zero_sector
   pub same : good ≡ true → block_at new zone 0 ≡ block_at old zone 0
+
+-- where the disk tells its zones, this holds of each image that a stop may then leave of it
+abbrev pub EachLeft : Option Image → ℕ → (ℕ → Image → Type 0) → (Image → Type 0) → Type 0
+EachLeft zones calls left P = calls < 2 ^ 64 - 1 →
+    WhereTold zones (λ _. (image : Image) → left calls image → P image)
+
+-- where the disk tells its zones, a stop may then leave of it what it reads as alone
+abbrev pub IsDurable : Option Image → ℕ → (ℕ → Image → Type 0) → Type 0
+IsDurable zones calls left = calls < 2 ^ 64 - 1 →
+    WhereTold zones (λ image. (other : Image) → left calls other → Same image other)
+
+-- the other super block may be written: the used blocks of both sets are equal from block 1 on, and
+-- where it isn't good, no part of the write makes it good but the whole
+pub record IsReady (c : Choice) (end : ℕ) (image : Image) : Type 0 where
+  pub each : (k : ℕ) → 1 ≤ k → k < end → set_block image c.other k ≡ set_block image c.zone k
+  pub good : c.other_good ≡ true → is_some (good_super image c.other) ≡ true
+  pub zeros : c.other_good ≡ false → take 512 (block_at image c.other 0) ≡ zero_sector

@@ -6,8 +6,8 @@ ghost use Rattle.zd_base.specs.Layout.{used_blocks};
 ghost use Rattle.zd_disk.specs.Told.{Both, WhereTold};
 ghost use Rattle.zd_model.specs.Super.{HasSizes};
 ghost use Rattle.zd_sets.specs.Blocks.{AreBlocks};
-ghost use Rattle.zd_sets.specs.Choice.{IsPlaced};
-ghost use Rattle.zd_sets.specs.Equal.{HasBlock, HasBlocks, HasSuper, IsCleared, IsMadeEqual, head_at};
+ghost use Rattle.zd_sets.specs.Choice.{IsChoice, IsPlaced};
+ghost use Rattle.zd_sets.specs.Equal.{EachLeft, HasBlock, HasBlocks, HasSuper, IsCleared, IsDurable, IsMadeEqual, IsReady, head_at};
 
 use crate::read::read_set_block;
 use crate::{Chosen, SetBlocks, write_block, write_super};
@@ -56,6 +56,7 @@ fn copy_blocks<D: ZonedDisk>(
     ensures ok { OnOk result (Both (D.zones disk.old) (D.zones disk.new)
         (HasBlocks geometry.now first 1 end blocks.now)) }
     ensures told { D.told disk.new ≡ D.told disk.old }
+    ensures durable { OnOk result (IsDurable (D.zones disk.new) (D.calls disk.new) (D.left disk.new)) }
     ensures cause { HasCause (D.faults disk.old) (D.faults disk.new) result }
 {
     let _zone_blocks = geometry.zone_blocks();
@@ -97,24 +98,24 @@ fn head_at(geometry: &Geometry, zone: ZoneNo, head: Super) -> Super
     Super { own, ..head }
 }
 
-/// Writes the super block of a head, with its own number, into the first block of a conventional zone,
-/// and flushes.
-fn put_super<D: ZonedDisk>(
-    disk: &mut D,
-    geometry: &Geometry,
-    zone: ZoneNo,
-    head: &Super,
-) -> Result<(), Failed>
+/// Writes the other set's super block, with the chosen fields and its own number, and flushes.
+///
+/// A stop may cut the write short, so the other set needs the used blocks of the chosen one before, in
+/// each image that a stop may leave.
+fn put_super<D: ZonedDisk>(disk: &mut D, geometry: &Geometry, chosen: &Chosen) -> Result<(), Failed>
     requires told { D.told disk.old ≡ Some geometry.now }
-    requires zone { zone < geometry.now.conv }
+    requires placed { IsPlaced geometry.now chosen.now }
+    requires ready { EachLeft (D.zones disk.old) (D.calls disk.old) (D.left disk.old)
+        (IsReady chosen.now (used_blocks geometry.now chosen.now.head.layout)) }
     ensures ok { OnOk result (Both (D.zones disk.old) (D.zones disk.new)
-        (HasSuper geometry.now zone head.now)) }
+        (HasSuper geometry.now chosen.now.other chosen.now.head)) }
     ensures told { D.told disk.new ≡ D.told disk.old }
+    ensures durable { OnOk result (IsDurable (D.zones disk.new) (D.calls disk.new) (D.left disk.new)) }
     ensures cause { HasCause (D.faults disk.old) (D.faults disk.new) result }
 {
     let _zone_blocks = geometry.zone_blocks();
-    let own = head_at(geometry, zone, *head);
-    write_super(disk, zone, &own)?;
+    let head = head_at(geometry, chosen.other, chosen.head);
+    write_super(disk, chosen.other, &head)?;
     disk.flush()
 }
 
@@ -123,6 +124,8 @@ fn put_super<D: ZonedDisk>(
 /// Where the other super block is bad, its first sector is made zeros first. Then the blocks that
 /// differ are written, and last the super block, with the chosen fields and its own number; each of
 /// the three parts ends with a flush.
+///
+/// After Ok a stop leaves what the disk reads as.
 pub fn make_equal<D: ZonedDisk>(
     disk: &mut D,
     geometry: &Geometry,
@@ -131,17 +134,19 @@ pub fn make_equal<D: ZonedDisk>(
 ) -> Result<(), Failed>
     requires told { D.told disk.old ≡ Some geometry.now }
     requires placed { IsPlaced geometry.now chosen.now }
+    requires chosen { WhereTold (D.zones disk.old) (IsChoice chosen.now) }
     requires size { length blocks.now ≡ 4096 * used_blocks geometry.now chosen.now.head.layout }
     requires blocks { WhereTold (D.zones disk.old) (λ image.
         AreBlocks image chosen.now.zone (used_blocks geometry.now chosen.now.head.layout) blocks.now) }
     ensures ok { OnOk result (Both (D.zones disk.old) (D.zones disk.new)
         (IsMadeEqual geometry.now chosen.now (used_blocks geometry.now chosen.now.head.layout))) }
     ensures told { D.told disk.new ≡ D.told disk.old }
+    ensures durable { OnOk result (IsDurable (D.zones disk.new) (D.calls disk.new) (D.left disk.new)) }
     ensures cause { HasCause (D.faults disk.old) (D.faults disk.new) result }
 {
     let _zone_blocks = geometry.zone_blocks();
     let used = chosen.head.layout.used_blocks(geometry);
     clear_bad(disk, geometry, chosen.other, chosen.other_good)?;
     copy_blocks(disk, geometry, chosen.other, used, blocks)?;
-    put_super(disk, geometry, chosen.other, &chosen.head)
+    put_super(disk, geometry, chosen)
 }
