@@ -1,4 +1,5 @@
 pub mod BlockLaws
 pub mod ChoiceLaws
+pub mod EqualLaws
 pub mod MagicLaws
 pub mod WriteLaws

@@ -49,7 +49,7 @@ pub fn read_block<D: ZonedDisk>(
 }
 
 /// Reads block `i` of the set that begins in zone `first`.
-fn read_set_block<D: ZonedDisk>(
+pub fn read_set_block<D: ZonedDisk>(
     disk: &mut D,
     geometry: &Geometry,
     first: ZoneNo,

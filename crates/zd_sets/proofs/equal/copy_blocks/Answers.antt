@@ -1,0 +1,39 @@
+use Rattle.std.proofs.Common.{◌≡◌, ◌+◌, List, ℕ, sym, ◌∙◌, subst, arith}
+use Rattle.zd_model.specs.Image.{Same}
+use Rattle.zd_disk.proofs.ToldLaws.{Some-same}
+use Rattle.zd_disk.specs.Told.{Both}
+use Rattle.zd_sets.specs.Equal.{HasBlock, HasBlocks}
+use Rattle.zd_sets.proofs.EqualLaws.{Both-then, blocks_stay, copied_more, ok_anyway}
+use Rattle.zd_sets.proofs.equal.copy_blocks.Goals as goal
+
+pub loop-i-preserved : goal.loop-i-preserved
+loop-i-preserved g c =
+    let d = g.met.D.ZonedDisk in
+    let blocks = c.args.blocks.now in
+    let shape = c.args.geometry.now in
+    let size = c.zone_blocks-zone_blocks.ensures.shape.size.least in
+    record {
+      told = c.in_ok-copy_block.ensures.told ∙ c.loop-i.invariant.told;
+      later = omega (arith, c.in_ok-copy_block.ensures.cause.later, c.loop-i.invariant.later);
+      copied = Both-then _ _ _ (HasBlocks shape c.args.first 1 c.loop-i.i blocks) (HasBlock shape c.args.first c.loop-i.i c.block.result.now) (HasBlocks shape c.args.first 1 (c.loop-i.i + 1) blocks)
+          (λ old middle new e m before here.
+          let same = Some-same _ _ (sym (d.agrees c.args.disk.now old e) ∙ c.requires.told) in
+          copied_more shape c.args.first (omega arith) 1 c.loop-i.i blocks old middle new same (omega arith) (λ k low. c.requires.inside k (omega arith)) before
+          (subst (λ (block : List ℕ). HasBlock shape c.args.first c.loop-i.i block middle new) c.block.ensures here))
+          c.loop-i.invariant.copied c.in_ok-copy_block.ensures.ok;
+    }
+
+pub returns-clause-ok : goal.returns-clause-ok
+returns-clause-ok g c =
+    let blocks = c.args.blocks.now in
+    let shape = c.args.geometry.now in
+    let size = c.zone_blocks-zone_blocks.ensures.shape.size.least in
+    let end : c.loop-i.i ≡ c.args.end = omega arith in
+    let d = g.met.D.ZonedDisk in
+    let last = subst (λ (n : ℕ). Both (g.D.ZonedDisk.zones c.args.disk.now) (g.D.ZonedDisk.zones c.loop-i.disk) (HasBlocks c.args.geometry.now c.args.first 1 n c.args.blocks.now)) end
+    c.loop-i.invariant.copied in
+    ok_anyway c.flush.result (Both-then _ _ _ (HasBlocks shape c.args.first 1 c.args.end blocks) Same (HasBlocks shape c.args.first 1 c.args.end blocks)
+    (λ old middle new e m before same.
+    let told = Some-same _ _ (sym (d.agrees c.args.disk.now old e) ∙ c.requires.told) in
+    blocks_stay shape c.args.first (omega arith) old middle new told (d.shaped c.loop-i.disk middle m) same 1 c.args.end blocks c.requires.inside before)
+    last c.flush.ensures.zones)

@@ -1,0 +1,14 @@
+use Rattle.std.proofs.Common.{◌≡◌, ◌≤◌}
+use Rattle.zd_disk.specs.Told.{Both}
+use Rattle.zd_sets.specs.Equal.{HasBlocks}
+use Rattle.zd_sets.proofs.equal.copy_blocks.Given as goal
+
+-- the blocks so far are copied
+abbrev pub invariant-loop-i : goal.invariant-loop-i
+invariant-loop-i g l =
+    let d = g.D.ZonedDisk in
+    record {
+      told : d.told l.disk ≡ d.told l.fn.disk;
+      later : d.faults l.fn.disk ≤ d.faults l.disk;
+      copied : Both (d.zones l.fn.disk) (d.zones l.disk) (HasBlocks l.geometry l.first 1 l.i l.blocks);
+    }

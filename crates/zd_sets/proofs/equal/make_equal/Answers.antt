@@ -1,0 +1,47 @@
+use Rattle.std.proofs.Common.{ℕ, sym, ◌∙◌, subst, arith}
+use Rattle.std.proofs.lemmas.Result.{on_ok_weaker}
+use Rattle.zd_base.specs.Layout.{used_blocks}
+use Rattle.zd_model.specs.Image.{Image}
+use Rattle.zd_disk.proofs.ToldLaws.{Both-new, Some-same}
+use Rattle.zd_disk.specs.Told.{Both}
+use Rattle.zd_sets.specs.Equal.{HasBlocks, HasSuper, IsCleared, IsMadeEqual}
+use Rattle.zd_sets.proofs.EqualLaws.{Both-then, made_equal, ready, still_ready}
+use Rattle.zd_sets.proofs.equal.make_equal.Goals as goal
+
+pub returns-clause-ok : goal.returns-clause-ok
+returns-clause-ok g c =
+    let d = g.met.D.ZonedDisk in
+    let size = c.zone_blocks-zone_blocks.ensures.shape.size.least in
+    let shape = c.args.geometry.now in
+    let chosen = c.args.chosen.now in
+    let bytes = c.args.blocks.now in
+    let end : ℕ = used_blocks shape chosen.head.layout in
+    let copied = subst (λ (n : ℕ). Both (g.D.ZonedDisk.zones c.clear_bad.new.disk) (g.D.ZonedDisk.zones c.copy_blocks.new.disk) (HasBlocks shape chosen.other 1 n bytes)) c.used_blocks-used.ensures c.in_ok-copy_blocks.ensures.ok in
+    let two = Both-then _ _ _ (IsCleared shape chosen.other chosen.other_good) (HasBlocks shape chosen.other 1 (used_blocks shape chosen.head.layout) bytes)
+    (λ a k. (b : Image) × IsCleared shape chosen.other chosen.other_good a b × HasBlocks shape chosen.other 1 (used_blocks shape chosen.head.layout) bytes b k)
+    (λ a b k e m clear blocks. (b, clear, blocks)) c.in_ok-clear_bad.ensures.ok copied in
+    on_ok_weaker c.put_super.result (Both-then _ _ _
+    (λ a k. (b : Image) × IsCleared shape chosen.other chosen.other_good a b × HasBlocks shape chosen.other 1 (used_blocks shape chosen.head.layout) bytes b k)
+    (HasSuper shape chosen.other chosen.head) (IsMadeEqual shape chosen (used_blocks shape chosen.head.layout))
+    (λ old middle new e m before put.
+    let told = Some-same _ _ (sym (d.agrees c.args.disk.now old e) ∙ c.requires.told) in
+    made_equal shape chosen bytes c.requires.placed (omega arith) old before.0 middle new told (c.requires.blocks old e) before.1 before.2 put)
+    two) c.put_super.ensures.ok
+
+pub put_super-requires-clause-ready : goal.put_super-requires-clause-ready
+put_super-requires-clause-ready g c = λ low middle m image can.
+    let d = g.met.D.ZonedDisk in
+    let size = c.zone_blocks-zone_blocks.ensures.shape.size.least in
+    let shape = c.args.geometry.now in
+    let chosen = c.args.chosen.now in
+    let bytes = c.args.blocks.now in
+    let copied = subst (λ (n : ℕ). Both (g.D.ZonedDisk.zones c.clear_bad.new.disk) (g.D.ZonedDisk.zones c.copy_blocks.new.disk) (HasBlocks shape chosen.other 1 n bytes)) c.used_blocks-used.ensures c.in_ok-copy_blocks.ensures.ok in
+    let two = Both-then _ _ _ (IsCleared shape chosen.other chosen.other_good) (HasBlocks shape chosen.other 1 (used_blocks shape chosen.head.layout) bytes)
+    (λ a k. (b : Image) × IsCleared shape chosen.other chosen.other_good a b × HasBlocks shape chosen.other 1 (used_blocks shape chosen.head.layout) bytes b k)
+    (λ a b k e h clear blocks. (b, clear, blocks)) c.in_ok-clear_bad.ensures.ok copied in
+    let from = Both-new _ _ (λ a k. (b : Image) × IsCleared shape chosen.other chosen.other_good a b × HasBlocks shape chosen.other 1 (used_blocks shape chosen.head.layout) bytes b k) middle two m in
+    let old : Image = from.0 in
+    let first = Some-same _ _ (sym (d.agrees c.args.disk.now old from.1) ∙ c.requires.told) in
+    let here = Some-same _ _ (sym (d.agrees c.copy_blocks.new.disk middle m) ∙ c.in_ok-copy_blocks.ensures.told ∙ c.in_ok-clear_bad.ensures.told ∙ c.requires.told) in
+    still_ready shape chosen bytes c.requires.placed (omega arith) middle image here (d.shaped c.copy_blocks.new.disk middle m) (c.in_ok-copy_blocks.ensures.durable low middle m image can)
+    (ready shape chosen bytes c.requires.placed (omega arith) old from.2.0 middle first (c.requires.blocks old from.1) (c.requires.chosen old from.1).other_good from.2.1 from.2.2)
