@@ -1,8 +1,7 @@
 -- Ways and rings after a place has been joined to another.
 use Rattle.std.proofs.Common.{◌≡◌, ◌≢◌, inl, inr, ℕ, suc, ◌+◌, ◌-◌, ◌<◌, ◌≤◌, List, [], ◌∷◌, ◌++◌, length, get_or, set, refl, sym, ap, ap₂, ◌∙◌, subst, arith, slice_index, length-set, get_or-set_same, get_or-set_other}
 use Rattle.std.proofs.lemmas.Bool.{cases_eq, cases_lt}
-use Rattle.zd_alloc.specs.Order.{times}
-use Rattle.zd_alloc.specs.Links.{Tables, end_of, next_of, prev_of, IsWithin, IsStep, IsWay, IsRing, joined, Removes, Appends}
+use Rattle.zd_alloc.specs.Links.{times, Tables, end_of, next_of, prev_of, IsWithin, IsStep, IsWay, IsRing, joined, Removes, Appends}
 use Rattle.zd_alloc.proofs.OrderLaws.{times-append, times_same, times_other, none_first}
 
 -- the last place on a way before its end, and the first behind its beginning
@@ -72,8 +71,7 @@ way_cut t p c q (x ∷ xs) ys here once none way way' =
     let apart : times p (x ∷ xs) ≡ 0 = omega (arith, once p, times_same p p (x ∷ xs ++ ys) refl, times-append p (x ∷ xs) ys) in
     let alone : times x ys ≡ 0 = omega (arith, once x, times_same x x (xs ++ ys) refl, times-append x xs ys) in
     let rest = none_first q x (xs ++ ys) none in
-    let less : (z : ℕ) → times z (x ∷ xs ++ ys) ≤ 1 = λ z. omega (arith, once z) in
-    (
+    let less : (z : ℕ) → times z (x ∷ xs ++ ys) ≤ 1 = λ z. omega (arith, once z) in (
       step_kept t (last_on x xs) (first_on ys q) p x (last_apart p x xs apart) (first_apart x q ys alone rest.0) way.0,
       way_cut t x c q xs ys here less rest.1 way.1 way',
     )
@@ -81,8 +79,7 @@ way_cut t p c q (x ∷ xs) ys here once none way way' =
 -- a way goes through one place more, right before its end
 way_more : (t : Tables) (p c q : ℕ) (xs : List ℕ) → AreIn t (last_on p xs) c → AreIn t c q → ((x : ℕ) → times x (p ∷ xs) ≤ 1) → times c (p ∷ xs) ≡ 0 → c ≢ q → times q xs ≡ 0 → IsWay t p xs q → IsWay (joined c q (joined (last_on p xs) c t)) p (xs ++ c ∷ []) q
 way_more t p c q [] here here' once new ne none way =
-    let u = joined p c t in
-    (
+    let u = joined p c t in (
       step_kept u c q p c (none_first c p [] new).0 ne (step_made t p c here.first here.second),
       step_made u c q (omega (arith, length-set t.next p c, here'.first)) (omega (arith, length-set t.prev c p, here'.second)),
     )
@@ -91,8 +88,7 @@ way_more t p c q (x ∷ xs) here here' once new ne none way =
     let apart : times p (x ∷ xs) ≡ 0 = omega (arith, once p, times_same p p (x ∷ xs) refl) in
     let n = none_first c p (x ∷ xs) new in
     let less : (z : ℕ) → times z (x ∷ xs) ≤ 1 = λ z. omega (arith, once z) in
-    let end = none_first q x xs none in
-    (
+    let end = none_first q x xs none in (
       step_kept (joined l c t) c q p x n.0 end.0 (step_kept t l c p x (last_apart p x xs apart) (none_first c x xs n.1).0 way.0),
       way_more t x c q xs here here' less n.1 ne end.1 way.1,
     )

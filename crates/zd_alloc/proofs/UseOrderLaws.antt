@@ -6,8 +6,8 @@ use Rattle.std.proofs.lemmas.List.Elements.{Contains-append_right}
 use Rattle.std.proofs.lemmas.List.FromFn.{length-range_with_len}
 use Rattle.std.proofs.lemmas.Option.{none-some, same_Some, slice_get-get_or, slice_get_past}
 use Rattle.std.proofs.lemmas.Bool.{cases_eq, cases_lt}
-use Rattle.zd_alloc.specs.Order.{times, PutsLast, IsBehind}
-use Rattle.zd_alloc.specs.Links.{Tables, end_of, next_of, IsWay, IsRing, Removes, Appends, places_from, order_of, IsWhole}
+use Rattle.zd_alloc.specs.Order.{PutsLast, IsBehind}
+use Rattle.zd_alloc.specs.Links.{times, Tables, end_of, next_of, IsWay, IsRing, Removes, Appends, places_from, order_of, IsWhole}
 use Rattle.zd_alloc.proofs.OrderLaws.{times-append, times_same, times_other, times_within, IsSplit, split_at, puts_last}
 use Rattle.zd_alloc.proofs.LinkLaws.{first_on, first_is}
 
@@ -57,8 +57,7 @@ put_last t u v order c whole removes appends end end' inside split =
     let none : times c (xs ++ ys) ≡ 0 = times-append c xs ys ∙ one in
     let ring : IsRing v new = appends (xs ++ ys) (removes xs ys (subst (IsRing t) split.is whole.ring)) none in
     let puts : PutsLast c order new = subst (λ (zs : List ℕ). PutsLast c zs new) (sym split.is)
-    (puts_last c xs ys (omega (arith, one)) (omega (arith, one))) in
-    (
+    (puts_last c xs ys (omega (arith, one)) (omega (arith, one))) in (
       new,
       record {
         ring = ring;

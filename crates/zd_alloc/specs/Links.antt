@@ -1,7 +1,6 @@
 -- Links: a list of places that is kept as a ring, with the next place and the one before for each, and
 -- a last place, the end, at which the ring closes.
-use Rattle.std.specs.Prelude.{◌≡◌, ℕ, zero, suc, ◌-◌, ◌<◌, ◌≤◌, List, [], ◌∷◌, ◌++◌, length, slice_index, set}
-use Rattle.zd_alloc.specs.Order.{times}
+use Rattle.std.specs.Prelude.{◌≡◌, ℕ, zero, suc, ◌+◌, ◌-◌, ◌<◌, ◌≤◌, List, [], ◌∷◌, ◌++◌, length, slice_index, set, if◌then◌else◌, ◌==◌}
 
 -- the next place, and the one before, of each place
 pub record Tables : Type 0 where
@@ -30,6 +29,11 @@ pub record IsWithin (t : Tables) : Type 0 where
 pub record IsStep (t : Tables) (first second : ℕ) : Type 0 where
   pub next : next_of t first ≡ second
   pub prev : prev_of t second ≡ first
+
+-- how often a place stands in a list
+abbrev pub times : ℕ → List ℕ → ℕ
+times place [] = 0
+times place (other ∷ places) = times place places + (if other == place then 1 else 0)
 
 -- the places of this list lead from the first place to the last
 abbrev pub IsWay : Tables → ℕ → List ℕ → ℕ → Type 0

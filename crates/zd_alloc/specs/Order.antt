@@ -1,5 +1,5 @@
 -- The use order: a list of all chunks, the one that was written least recently first.
-use Rattle.std.specs.Prelude.{◌≡◌, ℕ, ◌+◌, ◌==◌, Bool, not, if◌then◌else◌, List, [], ◌∷◌, ◌++◌, length, filter, Option, Some, slice_get, Contains}
+use Rattle.std.specs.Prelude.{◌≡◌, ℕ, ◌+◌, ◌==◌, Bool, not, List, [], ◌∷◌, ◌++◌, length, filter, Option, Some, slice_get, Contains}
 
 -- a chunk is another than this one
 abbrev pub is_other : ℕ → ℕ → Bool
@@ -18,8 +18,3 @@ pub record PutsLast (chunk : ℕ) (old new : List ℕ) : Type 0 where
 pub record IsBehind (order : List ℕ) (chunk : ℕ) (found : Option ℕ) : Type 0 where
   pub here : Contains order chunk
   pub behind : (place : ℕ) → slice_get order place ≡ Some chunk → found ≡ slice_get order (place + 1)
-
--- how often a chunk stands in a list
-abbrev pub times : ℕ → List ℕ → ℕ
-times chunk [] = 0
-times chunk (other ∷ order) = times chunk order + (if other == chunk then 1 else 0)

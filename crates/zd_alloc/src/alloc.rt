@@ -202,7 +202,8 @@ impl Alloc {
 
     /// The first chunk in use order.
     pub fn oldest(&self) -> ChunkNo
-        ensures { slice_get self.now.order 0 ≡ Some result }
+        ensures value { slice_get self.now.order 0 ≡ Some result }
+        ensures inside { result < length self.now.order }
     {
         ChunkNo(self.order.oldest())
     }
@@ -210,7 +211,8 @@ impl Alloc {
     /// The chunk behind this one in use order. None exactly for the last.
     pub fn after(&self, chunk: ChunkNo) -> Option<ChunkNo>
         requires { chunk < length self.now.order }
-        ensures { IsBehind self.now.order chunk result }
+        ensures value { IsBehind self.now.order chunk result }
+        ensures inside { IfSome result (λ next. next < length self.now.order) }
     {
         let next = self.order.after(chunk.0)?;
         Some(ChunkNo(next))

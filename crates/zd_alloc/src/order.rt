@@ -1,6 +1,6 @@
 //! The order in which chunks were written.
 
-ghost use Rattle.std.specs.Prelude.{◌≡◌, ◌<◌, ◌≤◌, length, IfOk, Some, slice_get};
+ghost use Rattle.std.specs.Prelude.{◌≡◌, ◌<◌, ◌≤◌, length, IfOk, IfSome, Some, slice_get};
 ghost use Rattle.std.specs.List.{range_with_len};
 ghost use Rattle.zd_alloc.specs.Order.{PutsLast, IsBehind};
 
@@ -51,7 +51,8 @@ impl UseOrder {
 
     /// The first chunk.
     pub(crate) fn oldest(&self) -> u32
-        ensures { slice_get self.now 0 ≡ Some result }
+        ensures value { slice_get self.now 0 ≡ Some result }
+        ensures inside { result < length self.now }
     {
         self.links.next(self.links.end())
     }
@@ -59,7 +60,8 @@ impl UseOrder {
     /// The chunk behind this one.
     pub(crate) fn after(&self, chunk: u32) -> Option<u32>
         requires { chunk < length self.now }
-        ensures { IsBehind self.now chunk result }
+        ensures value { IsBehind self.now chunk result }
+        ensures inside { IfSome result (λ next. next < length self.now) }
     {
         let next = self.links.next(chunk);
         if next == self.links.end() {

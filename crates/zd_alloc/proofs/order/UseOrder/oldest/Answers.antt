@@ -4,8 +4,8 @@ use Rattle.zd_alloc.specs.Links.{next_of}
 use Rattle.zd_alloc.proofs.UseOrderLaws.{first_whole}
 use Rattle.zd_alloc.proofs.order.UseOrder.oldest.Goals as goal
 
-pub returns : goal.returns
-returns c =
+pub returns-clause-value : goal.returns-clause-value
+returns-clause-value c =
     let t = c.self.inside.links in
     rw (← c.self.view_is)
     (first_whole t _ c.self.invariant
