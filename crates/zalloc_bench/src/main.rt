@@ -18,7 +18,7 @@ use zd_base::{ChunkNo, Geometry, Kind, Layout};
 const ZONE_BLOCKS: u32 = 65_536;
 
 /// How far the number of a touched chunk is from the one before.
-const STRIDE: u32 = 7_919;
+const STRIDE: u64 = 7_919;
 
 /// What is measured.
 #[derive(Drop)]
@@ -40,7 +40,7 @@ fn numbers(rt: &HostRuntime) -> io::Result<Vec<u32>> {
 }
 
 /// The task of a command, where it has four numbers, and the first two are a disk's.
-fn task(rt: &HostRuntime) -> Option<Task> {
+fn asked(rt: &HostRuntime) -> Option<Task> {
     let numbers = numbers(rt).ok()?;
     match numbers.as_slice() {
         [conv, seq, takes, touches] => Some(Task {
@@ -65,15 +65,18 @@ struct Volume {
     zones: Alloc,
     chunks: u32,
     ghost some: { 0 < chunks },
-    ghost few: { chunks < 65536 },
     ghost counted: { length zones.order ≡ chunks },
 }
 
 /// The disk with one reserved zone. None where it is too small, or where there is no memory.
-fn volume(alloc: Global, g: &Geometry) -> Option<Volume> {
+fn begun(alloc: Global, g: &Geometry) -> Option<Volume> {
     let layout = Layout::for_format(g, 1)?;
-    let named = no_names(alloc, g).ok()?;
-    let zones = Alloc::new(alloc, g, &layout, named.as_slice()).ok()?;
+    let Ok(named) = no_names(alloc, g) else {
+        return None;
+    };
+    let Ok(zones) = Alloc::new(alloc, g, &layout, named.as_slice()) else {
+        return None;
+    };
     Some(Volume {
         zones,
         chunks: layout.chunks,
@@ -81,7 +84,9 @@ fn volume(alloc: Global, g: &Geometry) -> Option<Volume> {
 }
 
 /// Takes all free conventional zones but the last.
-fn fill(zones: &mut Alloc) {
+fn fill(zones: &mut Alloc)
+    ensures { zones.new.order ≡ zones.old.order }
+{
     for _ in 1..zones.free(Kind::Conventional) {
         let _ = zones.take_conventional();
     }
@@ -89,7 +94,9 @@ fn fill(zones: &mut Alloc) {
 
 /// Takes the least free conventional zone and gives it back, so many times. The answer is the last zone
 /// that was taken.
-fn take_and_release(zones: &mut Alloc, rounds: u32) -> u32 {
+fn take_and_release(zones: &mut Alloc, rounds: u32) -> u32
+    ensures { zones.new.order ≡ zones.old.order }
+{
     let mut last = 0;
     for _ in 0..rounds {
         if let Some(zone) = zones.take_conventional() {
@@ -106,16 +113,16 @@ fn touch(volume: &mut Volume, rounds: u32) -> u32 {
     let mut chunk = 0;
     for _ in 0..rounds {
         volume.zones.touch(ChunkNo(chunk));
-        chunk = (chunk + STRIDE) % chunks;
+        chunk = ((u64::from(chunk) + STRIDE) % u64::from(chunks)) as u32;
     }
     volume.zones.oldest().0
 }
 
 fn main(rt: HostRuntime) -> ExitCode {
-    let Some(task) = task(&rt) else {
+    let Some(task) = asked(&rt) else {
         return ExitCode::FAILURE;
     };
-    let Some(mut volume) = volume(rt.alloc(), &task.geometry) else {
+    let Some(mut volume) = begun(rt.alloc(), &task.geometry) else {
         return ExitCode::FAILURE;
     };
     fill(&mut volume.zones);
