@@ -1,7 +1,7 @@
 -- Ways and rings after a place has been joined to another.
-use Rattle.std.proofs.Common.{◌≡◌, ◌≢◌, inl, inr, ℕ, suc, ◌+◌, ◌-◌, ◌<◌, ◌≤◌, List, [], ◌∷◌, ◌++◌, length, get_or, set, refl, sym, ap, ap₂, ◌∙◌, subst, arith, slice_index, length-set, get_or-set_same, get_or-set_other}
-use Rattle.std.proofs.lemmas.Bool.{cases_eq, cases_lt}
-use Rattle.zd_alloc.specs.Links.{times, Tables, end_of, next_of, prev_of, IsWithin, IsStep, IsWay, IsRing, joined, Removes, Appends}
+use Rattle.std.proofs.Common.{◌≡◌, ◌≢◌, inl, inr, ℕ, ◌+◌, ◌-◌, ◌<◌, ◌≤◌, List, [], ◌∷◌, ◌++◌, length, refl, sym, ap, ap₂, ◌∙◌, subst, arith, length-set, get_or-set_same, get_or-set_other}
+use Rattle.std.proofs.lemmas.Bool.{cases_eq}
+use Rattle.zd_alloc.specs.Links.{times, Tables, end_of, next_of, prev_of, IsStep, IsWay, IsRing, joined, Removes, Appends}
 use Rattle.zd_alloc.proofs.OrderLaws.{times-append, times_same, times_other, none_first}
 
 -- the last place on a way before its end, and the first behind its beginning

@@ -1,14 +1,14 @@
 -- The list that a ring of all chunks makes, and what it is after a chunk was put last.
-use Rattle.std.proofs.Common.{◌≡◌, ◌≢◌, inl, inr, ℕ, zero, suc, ◌+◌, ◌<◌, ◌≤◌, List, [], ◌∷◌, ◌++◌, length, get_or, Option, Some, None, refl, sym, ap, ◌∙◌, subst, arith, add-one}
+use Rattle.std.proofs.Common.{◌≡◌, ◌≢◌, inl, inr, ℕ, zero, suc, ◌+◌, ◌<◌, List, [], ◌∷◌, ◌++◌, length, get_or, Some, None, refl, sym, ap, ◌∙◌, subst, arith, add-one}
 use Rattle.std.specs.List.{slice_get, range_with_len, Contains}
 use Rattle.std.proofs.lemmas.List.{get_or_past}
 use Rattle.std.proofs.lemmas.List.Elements.{Contains-append_right}
 use Rattle.std.proofs.lemmas.List.FromFn.{length-range_with_len}
 use Rattle.std.proofs.lemmas.Option.{none-some, same_Some, slice_get-get_or, slice_get_past}
-use Rattle.std.proofs.lemmas.Bool.{cases_eq, cases_lt}
+use Rattle.std.proofs.lemmas.Bool.{cases_lt}
 use Rattle.zd_alloc.specs.Order.{PutsLast, IsBehind}
 use Rattle.zd_alloc.specs.Links.{times, Tables, end_of, next_of, IsWay, IsRing, Removes, Appends, places_from, order_of, IsWhole}
-use Rattle.zd_alloc.proofs.OrderLaws.{times-append, times_same, times_other, times_within, IsSplit, split_at, puts_last}
+use Rattle.zd_alloc.proofs.OrderLaws.{times-append, times_same, times_within, IsSplit, split_at, puts_last}
 use Rattle.zd_alloc.proofs.LinkLaws.{first_on, first_is}
 
 way_places : (t : Tables) (p q : ℕ) (xs : List ℕ) → IsWay t p xs q → places_from t.next (length xs) p ≡ xs

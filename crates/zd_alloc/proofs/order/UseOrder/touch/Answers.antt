@@ -1,6 +1,6 @@
 -- The ring without the chunk, and then with it at its end.
 use Rattle.std.proofs.Common.{arith}
-use Rattle.zd_alloc.proofs.UseOrderLaws.{IsTouched, touched}
+use Rattle.zd_alloc.proofs.UseOrderLaws.{touched}
 use Rattle.zd_alloc.proofs.order.UseOrder.touch.Goals as goal
 
 pub invariant_of-self : goal.invariant_of-self
