@@ -1,6 +1,7 @@
 #!/usr/bin/env bash
-# What a take with its release costs, and what a touch costs, on disks with 100 and with 52,000 chunks.
-# The zone that is taken is the last conventional one, and each touch is far from the one before.
+# What a take with its release costs, and what a touch costs, on disks with 100 and with 52,000
+# chunks. The zone that is taken is the last conventional one, and each touch is far from the one
+# before.
 #
 # Usage: bench/alloc.sh. It builds the program where it isn't built.
 set -eu

@@ -1,8 +1,8 @@
 //! A benchmark of zones and of the use order: `zalloc_bench CONV SEQ TAKES TOUCHES`.
 //!
 //! On a disk of so many conventional and sequential zones of 256 MiB it takes the last free
-//! conventional zone and gives it back so many times, and then touches so many chunks that stand far
-//! from each other.
+//! conventional zone and gives it back so many times, and then touches so many chunks that stand
+//! far from each other.
 #![tactic(auto)]
 
 ghost use Rattle.std.specs.Prelude.{◌≡◌, ◌<◌, ◌≤◌, length, IfOk, IfSome, vec_len};
@@ -92,8 +92,8 @@ fn fill(zones: &mut Alloc)
     }
 }
 
-/// Takes the least free conventional zone and gives it back, so many times. The answer is the last zone
-/// that was taken.
+/// Takes the least free conventional zone and gives it back, so many times. The answer is the last
+/// zone that was taken.
 fn take_and_release(zones: &mut Alloc, rounds: u32) -> u32
     ensures { zones.new.order ≡ zones.old.order }
 {

@@ -1,5 +1,5 @@
--- Links: a list of places that is kept as a ring, with the next place and the one before for each, and
--- a last place, the end, at which the ring closes.
+-- Links: a list of places that is kept as a ring, with the next place and the one before for each,
+-- and a last place, the end, at which the ring closes.
 use Rattle.std.specs.Prelude.{◌≡◌, ℕ, zero, suc, ◌+◌, ◌-◌, ◌<◌, ◌≤◌, List, [], ◌∷◌, ◌++◌, length, slice_index, set, if◌then◌else◌, ◌==◌}
 
 -- the next place, and the one before, of each place
@@ -40,7 +40,8 @@ abbrev pub IsWay : Tables → ℕ → List ℕ → ℕ → Type 0
 IsWay t first [] last = IsStep t first last
 IsWay t first (place ∷ places) last = IsStep t first place × IsWay t place places last
 
--- the ring goes from the end through these places, each once, and back to the end
+-- the ring goes from the end through these places, each at most once, and back to the end; both
+-- tables have one size
 pub record IsRing (t : Tables) (places : List ℕ) : Type 0 where
   pub same : length t.prev ≡ length t.next
   pub way : IsWay t (end_of t) places (end_of t)
@@ -56,16 +57,19 @@ joined first second t = record {
 
 -- the ring goes past this place now
 abbrev pub Removes : ℕ → Tables → Tables → Type 0
-Removes place old new = (before after : List ℕ) → IsRing old (before ++ place ∷ after) → IsRing new (before ++ after)
+Removes place old new = (before after : List ℕ)
+    → IsRing old (before ++ place ∷ after) → IsRing new (before ++ after)
 
 -- the ring goes through this place last now
 abbrev pub Appends : ℕ → Tables → Tables → Type 0
-Appends place old new = (places : List ℕ) → IsRing old places → times place places ≡ 0 → IsRing new (places ++ place ∷ [])
+Appends place old new = (places : List ℕ)
+    → IsRing old places → times place places ≡ 0 → IsRing new (places ++ place ∷ [])
 
 -- so many places, as they follow this one
 abbrev pub places_from : List ℕ → ℕ → ℕ → List ℕ
 places_from next zero place = []
-places_from next (suc count) place = slice_index next place ∷ places_from next count (slice_index next place)
+places_from next (suc count) place =
+    slice_index next place ∷ places_from next count (slice_index next place)
 
 -- the places below the end, as they follow the end
 abbrev pub order_of : Tables → List ℕ

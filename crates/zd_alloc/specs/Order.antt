@@ -17,4 +17,5 @@ pub record PutsLast (chunk : ℕ) (old new : List ℕ) : Type 0 where
 -- what stands right behind a chunk, wherever it stands in the list: None behind the last
 pub record IsBehind (order : List ℕ) (chunk : ℕ) (found : Option ℕ) : Type 0 where
   pub here : Contains order chunk
-  pub behind : (place : ℕ) → slice_get order place ≡ Some chunk → found ≡ slice_get order (place + 1)
+  pub behind : (place : ℕ) → slice_get order place ≡ Some chunk
+      → found ≡ slice_get order (place + 1)

@@ -18,8 +18,8 @@ use zd_base::{ChunkNo, Geometry, Kind, Layout, Memory, ZoneNo};
 
 /// What each zone of a volume is used for, and in which order chunks were written.
 ///
-/// Contracts see the number of conventional zones, the list of all uses, and the list of all chunks,
-/// the one that was written least recently first. No call but `new` takes memory.
+/// Contracts see the number of conventional zones, the list of all uses, and the list of all
+/// chunks, the one that was written least recently first. No call but `new` takes memory.
 #[derive(Drop)]
 pub struct Alloc {
     conventional: Zones,
@@ -62,9 +62,9 @@ fn started(
 }
 
 impl Alloc {
-    /// The zones at the start: those of both sets of metadata are laid aside, those that are named
-    /// are held, all others are free. `named` has a flag for each zone. The chunks stand in the order
-    /// of their numbers.
+    /// The zones at the start: those of both sets of metadata are laid aside, those of the others
+    /// that are named are held, all others are free. `named` has a flag for each zone. The chunks
+    /// stand in the order of their numbers.
     pub fn new(
         alloc: Global,
         g: &Geometry,
@@ -165,7 +165,8 @@ impl Alloc {
         }
     }
 
-    /// Gives a held zone back. It goes into limbo where the committed map names it, else it is free.
+    /// Gives a held zone back. It goes into limbo where the committed map names it, else it is
+    /// free.
     pub fn release(&mut self, zone: ZoneNo, named_by_commit: bool)
         requires inside { zone < length self.old.zones }
         requires held { use_at self.old.zones zone ≡ Held }
@@ -190,6 +191,7 @@ impl Alloc {
         self.conventional.end_limbo();
         self.sequential.end_limbo();
     }
+
     /// Puts a chunk last in the use order: it was written now.
     pub fn touch(&mut self, chunk: ChunkNo)
         requires { chunk < length self.old.order }

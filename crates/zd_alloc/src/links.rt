@@ -6,8 +6,8 @@ ghost use Rattle.zd_alloc.specs.Links.{end_of, next_of, prev_of, joined, IsRing,
 use std::alloc::{AllocError, Global};
 use std::marker::Model;
 
-/// A ring of places. It goes through the end, which is the greatest place, and through some of those
-/// below it, each at most once. Contracts see both tables.
+/// A ring of places. It goes through the end, which is the greatest place, and through some of
+/// those below it, each at most once. Contracts see both tables.
 #[derive(Drop)]
 pub(crate) struct Links {
     next: Vec<u32>,

@@ -75,8 +75,8 @@ fn digits_of(plain: &[u32]) -> u64 {
     digits
 }
 
-/// Whether four touches, whose chunks are the digits of `turn` in base four, leave the order that the
-/// plain list has.
+/// Whether four touches, whose chunks are the digits of `turn` in base four, leave the order that
+/// the plain list has.
 fn agree(alloc: Global, turn: u32) -> Result<bool, Fail> {
     let mut zones = four(alloc)?;
     let mut plain = [0, 1, 2, 3].to_vec(alloc)?;
