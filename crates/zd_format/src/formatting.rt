@@ -1,6 +1,6 @@
 //! Formatting a disk.
 
-ghost use Rattle.std.specs.Prelude.{◌≡◌, ◌<◌, ◌^◌, ◌-◌, Err, IfOk, IfSome, Some};
+ghost use Rattle.std.specs.Prelude.{◌≡◌, ◌⊎◌, ◌<◌, ◌^◌, ◌-◌, Err, IfOk, IfSome, Some};
 ghost use Rattle.zd_format.specs.Fresh.{HasDeviceCause, IsFormatted, IsFresh, IsUnfit};
 ghost use Rattle.zd_disk.specs.Told.{WhereTold};
 ghost use Rattle.zd_model.specs.Image.{Image};
@@ -49,7 +49,7 @@ pub fn format_disk<D: ZonedDisk>(
     ensures ok { IfOk result (λ made. WhereTold (D.zones disk.new) (IsFresh reserved label volume made.layout)) }
     ensures layout { IfOk result (λ made. IsFormatted reserved made.geometry made.layout (D.told disk.new)) }
     ensures unfit { result ≡ Err FormatFault.Unfit → IsUnfit reserved (D.told disk.new) }
-    ensures same { result ≡ Err FormatFault.Unfit →
+    ensures same { (result ≡ Err FormatFault.Unfit) ⊎ (result ≡ Err FormatFault.Memory) →
         (D.zones disk.new ≡ D.zones disk.old) × (D.calls disk.new ≡ D.calls disk.old) }
     ensures told { IfSome (D.told disk.old) (λ g. D.told disk.new ≡ Some g) }
     ensures durable { IfOk result (λ made. D.calls disk.new < 2 ^ 64 - 1 →
@@ -85,7 +85,7 @@ pub fn format<D: ZonedDisk>(
     ensures layout { IfOk result (λ layout. IfSome (D.told disk.new) (λ g.
         IsFormatted reserved g layout (D.told disk.new))) }
     ensures unfit { result ≡ Err FormatFault.Unfit → IsUnfit reserved (D.told disk.new) }
-    ensures same { result ≡ Err FormatFault.Unfit →
+    ensures same { (result ≡ Err FormatFault.Unfit) ⊎ (result ≡ Err FormatFault.Memory) →
         (D.zones disk.new ≡ D.zones disk.old) × (D.calls disk.new ≡ D.calls disk.old) }
     ensures told { IfSome (D.told disk.old) (λ g. D.told disk.new ≡ Some g) }
     ensures durable { IfOk result (λ layout. D.calls disk.new < 2 ^ 64 - 1 →
