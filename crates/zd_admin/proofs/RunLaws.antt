@@ -9,7 +9,7 @@ use Rattle.zd_disk.proofs.ToldLaws.{Some-same}
 use Rattle.zd_admin.proofs.WordLaws.{one_number, third}
 use Rattle.zd_admin.specs.Words.{AsksFormat, IsCommand}
 use Rattle.zd_admin.specs.Output.{HasStatus, IsDone, Takes, Tells, output}
-use Rattle.zd_admin.specs.Admin.{Ends, IsDecided, IsDoneStatus, OneOutcome, Reports, no_label}
+use Rattle.zd_admin.specs.Admin.{EndsWell, Ends, IsDecided, IsDoneStatus, OneOutcome, Reports, no_label}
 use Rattle.zd_admin.specs.declared.outcome.Outcome.{Outcome}
 use Rattle.zd_admin.specs.declared.outcome.Outcome.TheVariants.{Formatted, Usage, Device, Memory, Unfit}
 
@@ -93,3 +93,17 @@ pub reports_usage : (words : List (List ℕ)) (geometry : Option Shape) (status 
     → (IsCommand words → ⊥) → HasStatus Usage status → Takes before after (output Usage) whole → Reports words geometry status before after whole
 reports_usage words geometry status before after whole wrong answers taken =
     record { outcome = Usage; cause = inl (wrong, refl); answers = answers; taken = taken }
+
+-- where neither disk nor sink failed
+pub ends_well : (words : List (List ℕ)) (reserved : ℕ) (volume : List ℕ) (told : Option Shape) (outcome : Outcome) (status : ℕ)
+    → AsksFormat words reserved volume → Ends reserved told outcome → HasStatus outcome status ⊎ HasStatus Memory status
+    → (outcome ≡ Device → ⊥) → (status ≡ 6 → ⊥) → EndsWell words told status
+ends_well words reserved volume told outcome status asks ends (inr (inl h)) no_device no_sink = inl h
+ends_well words reserved volume told outcome status asks ends (inr (inr h)) no_device no_sink = absurd h.1
+ends_well words reserved volume told outcome status asks ends (inl (inr h)) no_device no_sink = absurd (no_sink h.0)
+ends_well words reserved volume told (Formatted chunks zone_blocks) status asks ends (inl (inl h)) no_device no_sink =
+    inr (inl (h, (reserved, volume, asks, ends.0, ends.1)))
+ends_well words reserved volume told Unfit status asks ends (inl (inl h)) no_device no_sink = inr (inr (h, (reserved, volume, asks, ends)))
+ends_well words reserved volume told Memory status asks ends (inl (inl h)) no_device no_sink = inl h
+ends_well words reserved volume told Device status asks ends (inl (inl h)) no_device no_sink = absurd (no_device refl)
+ends_well words reserved volume told Usage status asks ends (inl (inl h)) no_device no_sink = absurd ends

@@ -8,7 +8,8 @@ use Rattle.zd_format.specs.Fresh.{IsFormatted, IsFresh, IsUnfit}
 use Rattle.zd_admin.specs.Words.{AsksFormat, IsCommand}
 use Rattle.zd_admin.specs.Output.{HasStatus, Takes, output}
 use Rattle.zd_admin.specs.declared.outcome.Outcome.{Outcome}
-use Rattle.zd_admin.specs.declared.outcome.Outcome.TheVariants.{Formatted, Usage, Device, Memory, Unfit}
+use Rattle.zd_admin.specs.declared.outcome.Outcome.TheVariants.{Formatted, Usage, Device, Memory}
+use Rattle.zd_admin.specs.declared.outcome.Outcome.TheVariants.{Unfit}
 
 -- how formatting ended, for so many reserved zones, where the disk tells its geometry so
 abbrev pub Ends : ℕ → Option Shape → Outcome → Type 0
@@ -24,7 +25,8 @@ Ends reserved told Memory = Unit {0}
 abbrev pub Comes : List (List ℕ) → Option Shape → Outcome → Type 0
 Comes words told outcome =
     ((IsCommand words → ⊥) × (outcome ≡ Usage))
-    ⊎ ((reserved : ℕ) × (volume : List ℕ) × AsksFormat words reserved volume × Ends reserved told outcome)
+    ⊎ ((reserved : ℕ) × (volume : List ℕ) × AsksFormat words reserved volume
+    × Ends reserved told outcome)
 
 -- the outcomes that words and geometry decide, and no count of faults and no memory
 abbrev pub IsDecided : Outcome → Type 0
@@ -59,12 +61,28 @@ pub record Reports
 unfoldable pub no_label : List ℕ
 no_label = replicate 32 0
 
--- the volume for which the words ask, which nobody wrote
+-- a volume that nobody wrote, with so many reserved zones, no label and this identifier
+abbrev pub WasMade : ℕ → List ℕ → Image → Type 0
+WasMade reserved volume image =
+    IsFresh reserved no_label volume (formatted image.geometry reserved) image
+
+-- the one for which the words ask
 abbrev pub IsFreshBy : List (List ℕ) → Image → Type 0
 IsFreshBy words image = (reserved : ℕ) × (volume : List ℕ) × AsksFormat words reserved volume
-    × IsFresh reserved no_label volume (formatted image.geometry reserved) image
+    × WasMade reserved volume image
 
 -- the disk has no room for the volume for which the words ask
 abbrev pub IsUnfitBy : List (List ℕ) → Option Shape → Type 0
 IsUnfitBy words told = (reserved : ℕ) × (volume : List ℕ) × AsksFormat words reserved volume
     × IsUnfit reserved told
+
+-- the disk has room for it
+abbrev pub HasRoomBy : List (List ℕ) → Option Shape → Type 0
+HasRoomBy words told = (reserved : ℕ) × (volume : List ℕ) × AsksFormat words reserved volume
+    × (g : Shape) × IsFormatted reserved g (formatted g reserved) told
+
+-- how a run with right words ends where nothing fails: all is done with room, and nothing without
+-- it, unless no memory is found
+abbrev pub EndsWell : List (List ℕ) → Option Shape → ℕ → Type 0
+EndsWell words told status = (status ≡ 7)
+    ⊎ ((status ≡ 0) × HasRoomBy words told) ⊎ ((status ≡ 10) × IsUnfitBy words told)

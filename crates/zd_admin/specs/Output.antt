@@ -3,7 +3,8 @@ use Rattle.std.specs.Prelude.{◌≡◌, ◌⊎◌, ℕ, List, [], ◌++◌, cod
 use Rattle.zd_base.specs.Faults.{Rose}
 use Rattle.zd_model.specs.Text.{numeral}
 use Rattle.zd_admin.specs.declared.outcome.Outcome.{Outcome}
-use Rattle.zd_admin.specs.declared.outcome.Outcome.TheVariants.{Formatted, Usage, Device, Memory, Unfit}
+use Rattle.zd_admin.specs.declared.outcome.Outcome.TheVariants.{Formatted, Usage, Device, Memory}
+use Rattle.zd_admin.specs.declared.outcome.Outcome.TheVariants.{Unfit}
 
 -- the exit status of a run that ended so
 abbrev pub status_of : Outcome → ℕ

@@ -1,5 +1,6 @@
 -- Which words are a command.
-use Rattle.std.specs.Prelude.{◌≡◌, ℕ, ◌≤◌, ◌==◌, Bool, false, Option, Some, None, List, [], ◌∷◌, codes, slice_get}
+use Rattle.std.specs.Prelude.{◌≡◌, ℕ, ◌≤◌, ◌==◌, Bool, false, Option, Some, None}
+use Rattle.std.specs.Prelude.{List, [], ◌∷◌, codes, slice_get}
 use Rattle.uuid.specs.Text.{parsed}
 use Rattle.zd_model.specs.Text.{numeral}
 
@@ -9,8 +10,8 @@ is_option [] = false
 is_option (first ∷ []) = false
 is_option (first ∷ second ∷ rest) = first == 45
 
--- `--format --seq R --uuid U IMAGE`: the words ask to format an image with so many reserved zones, and
--- with this identifier of the volume
+-- `--format --seq R --uuid U IMAGE`: the words ask to format an image with so many reserved zones,
+-- and with this identifier of the volume
 pub record AsksFormat (words : List (List ℕ)) (reserved : ℕ) (volume : List ℕ) : Type 0 where
   pub id : List ℕ
   pub image : List ℕ

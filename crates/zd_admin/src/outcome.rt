@@ -58,7 +58,8 @@ fn add_number(text: &mut String, n: u32) -> Result<(), AllocError>
 
 /// The output of a run that formatted a disk.
 pub fn formatted_text(alloc: Global, chunks: u32, zone_blocks: u32) -> Result<String, AllocError>
-    ensures { IfOk result (λ text. string_bytes text ≡ output (Outcome.Formatted chunks zone_blocks)) }
+    ensures { IfOk result (λ text.
+        string_bytes text ≡ output (Outcome.Formatted chunks zone_blocks)) }
 {
     let mut text = String::from_str(alloc, "formatted ")?;
     add_number(&mut text, chunks)?;

@@ -26,8 +26,8 @@ fn write_all<K: Sink>(out: &mut K, bytes: &[u8]) -> Result<(), Failed>
     Ok(())
 }
 
-/// The status of an outcome whose output was handed out or not: 6 where that failed and nothing else
-/// was wrong.
+/// The status of an outcome whose output was handed out or not: 6 where that failed and nothing
+/// else was wrong.
 fn status_after(outcome: Outcome, told: bool) -> Status
     ensures answers { HasStatus outcome result.0 }
     ensures done { result.0 ≡ 0 → told ≡ true }

@@ -1,14 +1,13 @@
 //! A run, from words to the last line.
 
-ghost use Rattle.std.specs.Prelude.{◌≡◌, ◌⊎◌, ◌↔◌, ◌<◌, ◌≤◌, ◌-◌, ◌^◌, map, string_bytes};
+ghost use Rattle.std.specs.Prelude.{◌≡◌, ◌↔◌, ◌≤◌, map, string_bytes};
 ghost use Rattle.zd_base.specs.Faults.{Rose};
-ghost use Rattle.zd_base.specs.Layout.{formatted};
 ghost use Rattle.zd_disk.specs.Told.{WhereTold};
-ghost use Rattle.zd_model.specs.Image.{Image};
-ghost use Rattle.zd_format.specs.Fresh.{IsFresh};
+ghost use Rattle.zd_format.specs.Fresh.{EachLeft};
 ghost use Rattle.zd_admin.specs.Words.{IsCommand};
 ghost use Rattle.zd_admin.specs.Output.{IsDone, IsFaultless, IsTaken};
-ghost use Rattle.zd_admin.specs.Admin.{Ends, IsDoneStatus, IsFreshBy, IsStatus, IsUnfitBy, Reports, no_label};
+ghost use Rattle.zd_admin.specs.Admin.{Ends, EndsWell, IsDoneStatus, IsFreshBy, IsStatus, IsUnfitBy};
+ghost use Rattle.zd_admin.specs.Admin.{Reports, WasMade, no_label};
 
 use crate::outcome::Outcome;
 use crate::report::{tell, tell_line};
@@ -26,13 +25,13 @@ const NO_LABEL: [u8; 32] = [0; 32];
 #[tactic(auto, unfolding(crate::specs::Admin::no_label))]
 fn run<D: ZonedDisk>(alloc: Global, disk: &mut D, asked: Asked) -> Outcome
     ensures ended { Ends asked.reserved (D.told disk.new) result }
-    ensures reads { IsDone result → WhereTold (D.zones disk.new) (λ image.
-        IsFresh asked.reserved no_label asked.volume (formatted image.geometry asked.reserved) image) }
+    ensures reads { IsDone result →
+        WhereTold (D.zones disk.new) (WasMade asked.reserved asked.volume) }
     ensures same { result ≡ Outcome.Unfit →
         (D.zones disk.new ≡ D.zones disk.old) × (D.calls disk.new ≡ D.calls disk.old) }
-    ensures durable { IsDone result → D.calls disk.new < 2 ^ 64 - 1 →
-        WhereTold (D.zones disk.new) (λ _. (left : Image) → D.left disk.new (D.calls disk.new) left →
-        IsFresh asked.reserved no_label asked.volume (formatted left.geometry asked.reserved) left) }
+    ensures durable { IsDone result →
+        EachLeft (D.zones disk.new) (D.calls disk.new) (D.left disk.new)
+        (WasMade asked.reserved asked.volume) }
     ensures device { result ≡ Outcome.Device → Rose (D.faults disk.old) (D.faults disk.new) }
     ensures later { D.faults disk.old ≤ D.faults disk.new }
 {
@@ -49,10 +48,10 @@ fn run<D: ZonedDisk>(alloc: Global, disk: &mut D, asked: Asked) -> Outcome
 
 /// Does what the words ask for on a disk, and tells how it ended. It hands the disk back.
 ///
-/// So far the one command is `--format --seq R --uuid U IMAGE`: the disk becomes a volume of zeros with R
-/// reserved zones, no label, and the identifier U. The status is 0 where that was done, 1 where the words
-/// are no command, 4 where the disk failed, 6 where the sink failed and nothing else was wrong, 7 where no
-/// memory was found, and 10 where the disk has no room for such a volume.
+/// So far the one command is `--format --seq R --uuid U IMAGE`: the disk becomes a volume of zeros
+/// with R reserved zones, no label, and the identifier U. The status is 0 where that was done, 1 where
+/// the words are no command, 4 where the disk failed, 6 where the sink failed and nothing else was
+/// wrong, 7 where no memory was found, and 10 where the disk has no room for such a volume.
 pub fn admin<D: ZonedDisk, K: Sink>(
     alloc: Global,
     words: &[String],
@@ -67,25 +66,27 @@ pub fn admin<D: ZonedDisk, K: Sink>(
         Reports (map string_bytes words.now) (D.told result.1) result.0.0 before (K.held out.new)
         (IsTaken result.0.0 (K.faults out.old) (K.faults out.new))) }
 
-    // Where all was done, the disk is the volume for which the words ask, and stays so after a stop.
+    // Where all was done, the disk is the volume for which the words ask, also after a stop.
     ensures reads { IsDoneStatus result.0.0 →
         WhereTold (D.zones result.1) (IsFreshBy (map string_bytes words.now)) }
-    ensures durable { IsDoneStatus result.0.0 → D.calls result.1 < 2 ^ 64 - 1 →
-        WhereTold (D.zones result.1) (λ _. (left : Image) → D.left result.1 (D.calls result.1) left →
-        IsFreshBy (map string_bytes words.now) left) }
+    ensures durable { IsDoneStatus result.0.0 →
+        EachLeft (D.zones result.1) (D.calls result.1) (D.left result.1)
+        (IsFreshBy (map string_bytes words.now)) }
 
     ensures device { result.0.0 ≡ 4 → Rose (D.faults disk) (D.faults result.1) }
     ensures sink { result.0.0 ≡ 6 → Rose (K.faults out.old) (K.faults out.new) }
 
-    // Where the disk has no room, nothing was written. Where the words are no command, no call came to it.
+    // Where the disk has no room, nothing was written. Where the words are no command, it is the very
+    // value.
     ensures unfit { result.0.0 ≡ 10 → IsUnfitBy (map string_bytes words.now) (D.told result.1)
         × (D.zones result.1 ≡ D.zones disk) × (D.calls result.1 ≡ D.calls disk) }
     ensures same { result.0.0 ≡ 1 → result.1 ≡ disk }
 
-    // Where nothing is wrong and nothing fails, all is done, unless there is no room or no memory.
-    ensures complete { IsCommand (map string_bytes words.now) → IsFaultless (D.faults disk) (D.faults result.1) →
+    // Where nothing is wrong and nothing fails, room decides, unless no memory is found.
+    ensures complete { IsCommand (map string_bytes words.now) →
+        IsFaultless (D.faults disk) (D.faults result.1) →
         IsFaultless (K.faults out.old) (K.faults out.new) →
-        (result.0.0 ≡ 0) ⊎ (result.0.0 ≡ 7) ⊎ (result.0.0 ≡ 10) }
+        EndsWell (map string_bytes words.now) (D.told result.1) result.0.0 }
 {
     let Some(asked) = command(words) else {
         return (tell_line(out, Outcome::Usage), disk);

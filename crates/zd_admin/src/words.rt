@@ -62,7 +62,8 @@ fn identifier(word: &str) -> Option<Uuid>
 
 /// What the words ask for, where they are a command.
 pub fn command(words: &[String]) -> Option<Asked>
-    ensures some { IfSome result (λ a. AsksFormat (map string_bytes words.now) a.reserved a.volume) }
+    ensures some { IfSome result (λ a.
+        AsksFormat (map string_bytes words.now) a.reserved a.volume) }
     ensures none { IfNone result (IsCommand (map string_bytes words.now) → ⊥) }
 {
     let [format, seq, reserved, uuid, volume, image] = words else {
@@ -84,7 +85,8 @@ pub fn command(words: &[String]) -> Option<Asked>
 ///
 /// It takes no memory yet: `Memory` is kept for the commands whose words come in any order.
 pub fn paths<'a>(words: &'a [String]) -> Result<Paths<'a>, Memory>
-    ensures value { IfOk result (λ paths. NamesImage (map string_bytes words.now) (option_copied paths.image)) }
+    ensures value { IfOk result (λ paths.
+        NamesImage (map string_bytes words.now) (option_copied paths.image)) }
     ensures script { IfOk result (λ paths. paths.script ≡ None) }
     ensures front { IfOk result (λ paths. paths.front ≡ None) }
 {

@@ -1,5 +1,6 @@
 -- Sets of metadata that are written block by block.
-use Rattle.std.specs.Prelude.{◌≡◌, ◌⊎◌, ℕ, ◌+◌, ◌*◌, ◌/◌, ◌<◌, ◌≤◌, List, length, take, drop, replicate}
+use Rattle.std.specs.Prelude.{◌≡◌, ◌⊎◌, ℕ, ◌+◌, ◌*◌, ◌/◌, ◌<◌, ◌≤◌}
+use Rattle.std.specs.Prelude.{List, length, take, drop, replicate}
 use Rattle.zd_base.specs.Geometry.{Shape, IsShape}
 use Rattle.zd_base.specs.Layout.{Fits, set_zones}
 use Rattle.zd_model.specs.Image.{Image, set_block}
@@ -29,8 +30,8 @@ pub record IsFreshBlock (head : Super) (k : ℕ) (block : List ℕ) : Type 0 whe
   pub map : 1 ≤ k → k ≤ head.layout.map_blocks → NamesNothing block
   pub bitmap : head.layout.map_blocks < k → block ≡ zero_blocks 1
 
--- new is old with these blocks in the set that begins in zone `first`, from block b on; the blocks of the
--- disk before them are as they were
+-- new is old with these blocks in the set that begins in zone `first`, from block b on; the blocks of
+-- the disk before them are as they were
 pub record PutBlocks (first b : ℕ) (bytes : List ℕ) (old new : Image) : Type 0 where
   pub geometry : new.geometry ≡ old.geometry
   pub put : (j : ℕ) → j < blocks_in bytes → set_block new first (b + j) ≡ block_in bytes j
@@ -55,8 +56,8 @@ pub record IsPlaced (g : Shape) (head : Super) (first : ℕ) : Type 0 where
   pub fits : Fits g head.layout
   pub start : (first ≡ 0) ⊎ (first ≡ set_zones g head.layout)
 
--- the set that begins in zone `first` is written up to block b, and the first set whole where this is the
--- second
+-- the set that begins in zone `first` is written up to block b, and the first set whole where this is
+-- the second
 pub record HasWritten (g : Shape) (head : Super) (first b : ℕ) (image : Image) : Type 0 where
   pub geometry : image.geometry ≡ g
   pub earlier : 0 < first → (k : ℕ) → k < head.layout.meta_blocks →

@@ -1,9 +1,8 @@
 //! Formatting a disk.
 
-ghost use Rattle.std.specs.Prelude.{◌≡◌, ◌⊎◌, ◌<◌, ◌^◌, ◌-◌, Err, IfOk, IfSome, Some};
-ghost use Rattle.zd_format.specs.Fresh.{HasDeviceCause, IsFormatted, IsFresh, IsUnfit};
+ghost use Rattle.std.specs.Prelude.{◌≡◌, ◌⊎◌, Err, IfOk, IfSome, Some};
+ghost use Rattle.zd_format.specs.Fresh.{EachLeft, HasDeviceCause, IsFormatted, IsFresh, IsUnfit};
 ghost use Rattle.zd_disk.specs.Told.{WhereTold};
-ghost use Rattle.zd_model.specs.Image.{Image};
 
 use crate::head::head_of;
 use crate::runs::zero_run;
@@ -34,11 +33,11 @@ pub struct Formatted {
     pub layout: Layout,
 }
 
-/// Makes a disk a volume that nobody wrote, with so many reserved zones, and answers its geometry and its
-/// layout.
+/// Makes a disk a volume that nobody wrote, with so many reserved zones, and answers its geometry and
+/// its layout.
 ///
-/// Both sets are written in the order of the disk's blocks, then all is flushed. Ok leaves a well-formed
-/// volume of zeros, also after a stop; a stop inside the call promises nothing.
+/// Both sets are written in the order of the disk's blocks, then all is flushed. Ok leaves a
+/// well-formed volume of zeros, also after a stop; a stop inside the call promises nothing.
 pub fn format_disk<D: ZonedDisk>(
     alloc: Global,
     disk: &mut D,
@@ -46,15 +45,17 @@ pub fn format_disk<D: ZonedDisk>(
     label: [u8; 32],
     volume: Uuid,
 ) -> Result<Formatted, FormatFault>
-    ensures ok { IfOk result (λ made. WhereTold (D.zones disk.new) (IsFresh reserved label volume made.layout)) }
-    ensures layout { IfOk result (λ made. IsFormatted reserved made.geometry made.layout (D.told disk.new)) }
+    ensures ok { IfOk result (λ made.
+        WhereTold (D.zones disk.new) (IsFresh reserved label volume made.layout)) }
+    ensures layout { IfOk result (λ made.
+        IsFormatted reserved made.geometry made.layout (D.told disk.new)) }
     ensures unfit { result ≡ Err FormatFault.Unfit → IsUnfit reserved (D.told disk.new) }
     ensures same { (result ≡ Err FormatFault.Unfit) ⊎ (result ≡ Err FormatFault.Memory) →
         (D.zones disk.new ≡ D.zones disk.old) × (D.calls disk.new ≡ D.calls disk.old) }
     ensures told { IfSome (D.told disk.old) (λ g. D.told disk.new ≡ Some g) }
-    ensures durable { IfOk result (λ made. D.calls disk.new < 2 ^ 64 - 1 →
-        WhereTold (D.zones disk.new) (λ _. (left : Image) → D.left disk.new (D.calls disk.new) left →
-        IsFresh reserved label volume made.layout left)) }
+    ensures durable { IfOk result (λ made.
+        EachLeft (D.zones disk.new) (D.calls disk.new) (D.left disk.new)
+        (IsFresh reserved label volume made.layout)) }
     ensures cause { HasDeviceCause (D.faults disk.old) (D.faults disk.new) result }
 {
     let Ok(geometry) = disk.geometry() else {
@@ -81,16 +82,17 @@ pub fn format<D: ZonedDisk>(
     label: [u8; 32],
     volume: Uuid,
 ) -> Result<Layout, FormatFault>
-    ensures ok { IfOk result (λ layout. WhereTold (D.zones disk.new) (IsFresh reserved label volume layout)) }
+    ensures ok { IfOk result (λ layout.
+        WhereTold (D.zones disk.new) (IsFresh reserved label volume layout)) }
     ensures layout { IfOk result (λ layout. IfSome (D.told disk.new) (λ g.
         IsFormatted reserved g layout (D.told disk.new))) }
     ensures unfit { result ≡ Err FormatFault.Unfit → IsUnfit reserved (D.told disk.new) }
     ensures same { (result ≡ Err FormatFault.Unfit) ⊎ (result ≡ Err FormatFault.Memory) →
         (D.zones disk.new ≡ D.zones disk.old) × (D.calls disk.new ≡ D.calls disk.old) }
     ensures told { IfSome (D.told disk.old) (λ g. D.told disk.new ≡ Some g) }
-    ensures durable { IfOk result (λ layout. D.calls disk.new < 2 ^ 64 - 1 →
-        WhereTold (D.zones disk.new) (λ _. (left : Image) → D.left disk.new (D.calls disk.new) left →
-        IsFresh reserved label volume layout left)) }
+    ensures durable { IfOk result (λ layout.
+        EachLeft (D.zones disk.new) (D.calls disk.new) (D.left disk.new)
+        (IsFresh reserved label volume layout)) }
     ensures cause { HasDeviceCause (D.faults disk.old) (D.faults disk.new) result }
 {
     match format_disk(alloc, disk, reserved, label, volume) {

@@ -33,7 +33,8 @@ pub fn run_length(geometry: &Geometry, block: u32, end: u32) -> u32
     (end - block).min(left).min(MOST)
 }
 
-/// Writes blocks of the set that begins in zone `first`, from this one on, all in one conventional zone.
+/// Writes blocks of the set that begins in zone `first`, from this one on, all in one conventional
+/// zone.
 pub fn write_run<D: ZonedDisk>(
     disk: &mut D,
     geometry: &Geometry,
@@ -45,8 +46,10 @@ pub fn write_run<D: ZonedDisk>(
     requires whole { length bytes.now ≡ 4096 * blocks_in bytes.now }
     requires some { 0 < blocks_in bytes.now }
     requires zone { first + block / geometry.now.zone_blocks < geometry.now.conv }
-    requires within { block % geometry.now.zone_blocks + blocks_in bytes.now ≤ geometry.now.zone_blocks }
-    ensures ok { OnOk result (Both (D.zones disk.old) (D.zones disk.new) (PutBlocks first block bytes.now)) }
+    requires within { block % geometry.now.zone_blocks + blocks_in bytes.now
+        ≤ geometry.now.zone_blocks }
+    ensures ok { OnOk result (Both (D.zones disk.old) (D.zones disk.new)
+        (PutBlocks first block bytes.now)) }
     ensures told { D.told disk.new ≡ D.told disk.old }
     ensures cause { HasCause (D.faults disk.old) (D.faults disk.new) result }
 {

@@ -1,11 +1,11 @@
 //! Both sets of metadata of a volume that nobody wrote, written in the order of the disk's blocks.
 
-ghost use Rattle.std.specs.Prelude.{◌≡◌, ◌+◌, ◌*◌, ◌-◌, ◌<◌, ◌^◌, ℕ, Some, OnOk};
+ghost use Rattle.std.specs.Prelude.{◌≡◌, ◌+◌, Some, OnOk};
 ghost use Rattle.zd_base.specs.Faults.{HasCause};
 ghost use Rattle.zd_base.specs.Geometry.{IsShape};
 ghost use Rattle.zd_base.specs.Layout.{Fits};
 ghost use Rattle.zd_disk.specs.Told.{WhereTold};
-ghost use Rattle.zd_model.specs.Image.{Image};
+ghost use Rattle.zd_format.specs.Fresh.{EachLeft};
 ghost use Rattle.zd_format.specs.Sets.{HasBothSets, HasWritten, IsPlaced, zero_blocks};
 
 use crate::runs::{run_length, write_run};
@@ -25,7 +25,8 @@ fn write_super<D: ZonedDisk>(
     requires told { D.told disk.old ≡ Some geometry.now }
     requires set { IsPlaced geometry.now head.now first }
     requires zones { WhereTold (D.zones disk.old) (HasWritten geometry.now head.now first 0) }
-    ensures ok { OnOk result (WhereTold (D.zones disk.new) (HasWritten geometry.now head.now first 1)) }
+    ensures ok { OnOk result (WhereTold (D.zones disk.new)
+        (HasWritten geometry.now head.now first 1)) }
     ensures told { D.told disk.new ≡ D.told disk.old }
     ensures cause { HasCause (D.faults disk.old) (D.faults disk.new) result }
 {
@@ -127,8 +128,8 @@ pub fn write_sets<D: ZonedDisk>(
     ensures shape { IsShape geometry.now }
     ensures ok { OnOk result (WhereTold (D.zones disk.new) (HasBothSets geometry.now head.now)) }
     ensures told { D.told disk.new ≡ D.told disk.old }
-    ensures durable { OnOk result (D.calls disk.new < 2 ^ 64 - 1 → WhereTold (D.zones disk.new) (λ _.
-        (i : Image) → D.left disk.new (D.calls disk.new) i → HasBothSets geometry.now head.now i)) }
+    ensures durable { OnOk result (EachLeft (D.zones disk.new) (D.calls disk.new) (D.left disk.new)
+        (HasBothSets geometry.now head.now)) }
     ensures cause { HasCause (D.faults disk.old) (D.faults disk.new) result }
 {
     let second = head.layout.set_zones(geometry);
