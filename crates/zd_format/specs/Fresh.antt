@@ -62,6 +62,10 @@ pub record IsFormatted
   pub numbers : layout ≡ formatted g reserved
   pub fits : Fits g layout
 
+-- the layout is the one for the geometry that the disk tells
+abbrev pub IsFormattedBy : ℕ → Layout → Option Shape → Type 0
+IsFormattedBy reserved layout told = (g : Shape) × IsFormatted reserved g layout told
+
 -- the disk tells a geometry, which has no room for a volume with so many reserved zones
 abbrev pub IsUnfit : ℕ → Option Shape → Type 0
 IsUnfit reserved told = IsSomeAnd told (λ g. Fits g (formatted g reserved) → ⊥)

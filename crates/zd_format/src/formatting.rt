@@ -1,7 +1,8 @@
 //! Formatting a disk.
 
 ghost use Rattle.std.specs.Prelude.{◌≡◌, ◌⊎◌, Err, IfOk, IfSome, Some};
-ghost use Rattle.zd_format.specs.Fresh.{EachLeft, HasDeviceCause, IsFormatted, IsFresh, IsUnfit};
+ghost use Rattle.zd_format.specs.Fresh.{EachLeft, HasDeviceCause, IsFormatted, IsFormattedBy};
+ghost use Rattle.zd_format.specs.Fresh.{IsFresh, IsUnfit};
 ghost use Rattle.zd_disk.specs.Told.{WhereTold};
 
 use crate::head::head_of;
@@ -84,8 +85,7 @@ pub fn format<D: ZonedDisk>(
 ) -> Result<Layout, FormatFault>
     ensures ok { IfOk result (λ layout.
         WhereTold (D.zones disk.new) (IsFresh reserved label volume layout)) }
-    ensures layout { IfOk result (λ layout. IfSome (D.told disk.new) (λ g.
-        IsFormatted reserved g layout (D.told disk.new))) }
+    ensures layout { IfOk result (λ layout. IsFormattedBy reserved layout (D.told disk.new)) }
     ensures unfit { result ≡ Err FormatFault.Unfit → IsUnfit reserved (D.told disk.new) }
     ensures same { (result ≡ Err FormatFault.Unfit) ⊎ (result ≡ Err FormatFault.Memory) →
         (D.zones disk.new ≡ D.zones disk.old) × (D.calls disk.new ≡ D.calls disk.old) }
