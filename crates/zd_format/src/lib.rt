@@ -7,4 +7,4 @@ mod runs;
 mod sets;
 
 pub use formatting::{FormatFault, Formatted, format, format_disk};
-pub use zd_model::{Layout, Super};
+pub use zd_model::Layout;
