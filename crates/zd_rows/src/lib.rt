@@ -7,6 +7,8 @@
 #[cfg(test)]
 mod failures;
 #[cfg(test)]
+mod formatting;
+#[cfg(test)]
 mod fresh;
 #[cfg(test)]
 mod image_file;
