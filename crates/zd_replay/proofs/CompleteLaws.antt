@@ -1,5 +1,5 @@
 -- Where nothing is wrong and nothing fails, a run ends with status 0 or 7.
-use Rattle.std.proofs.Common.{◌≡◌, ◌⊎◌, ℕ, List, Option, Some, None, sym, ap, ap₂, ◌∙◌, subst, inl, inr, arith, refl}
+use Rattle.std.proofs.Common.{◌≡◌, ◌⊎◌, ℕ, List, Option, Some, None, sym, ap, ap₂, ◌∙◌, subst, inl, inr, refl}
 use Rattle.zd_base.specs.Layout.{Fits}
 use Rattle.zd_base.specs.declared.numbers.Why.TheVariants as whys
 use Rattle.zd_model.specs.Image.{Image}
@@ -18,7 +18,7 @@ use Rattle.zd_model.proofs.RefusalLaws.{one_refusal, script_stands}
 use Rattle.zd_model.specs.declared.requests.Request.{Request}
 use Rattle.zd_model.specs.declared.texts.BadLine.{BadLine}
 use Rattle.zd_replay.specs.Reads.{IsFirstCallersRead, IsOtherScript, IsScriptOfReads}
-use Rattle.zd_replay.specs.Opening.{Opens, IsWritten, RefusesHead}
+use Rattle.zd_replay.specs.Opening.{AreReadable, Opens, HasOtherData, RefusesHead}
 use Rattle.zd_replay.specs.Replay.{Comes, Ends, HasStatus, IsDecided, IsRight, Reports}
 
 one_head : (a b : Super) → ◌≡◌ {A = Option Super} (Some a) (Some b) → a ≡ b
@@ -32,11 +32,11 @@ pub never_refused : (kind : NoVolume) (image : Image) → RefusesHead kind image
 never_refused NoSuperBlock image none o = no_head o.0 (sym none ∙ o.1.good)
 never_refused Layout image bad o = bad.2 (subst (λ (s : Super). Fits image.geometry s.layout) (one_head o.0 bad.0 (sym o.1.good ∙ bad.1)) o.1.fits)
 
--- and nobody wrote it
-pub never_written : (image : Image) → IsWritten image → Opens image → ⊥
-never_written image w o =
+-- and has no data elsewhere
+pub never_other : (image : Image) → HasOtherData image → Opens image → ⊥
+never_other image w o =
     let same : o.0 ≡ w.0 = one_head o.0 w.0 (sym o.1.good ∙ w.2.good) in
-    w.3.entry (o.2 w.1 (omega arith) (rw same w.3.below))
+    w.4 (subst (λ (s : Super). AreReadable image s) same o.2 w.1 w.3)
 
 -- a script has one plan, so it has reads alone or it hasn't
 same_plan : (bytes : List ℕ) (p q : List Request) → IsScript bytes p → IsScript bytes q → p ≡ q
@@ -54,7 +54,7 @@ left_over bytes image status words right no_device no_source no_sink outcomes.Us
 left_over bytes image status words right no_device no_source no_sink outcomes.Source ends (inl is) = absurd (no_source is)
 left_over bytes image status words right no_device no_source no_sink (outcomes.BadScript line why) ends (inl is) = absurd (script_stands bytes right.script.0 right.script.1.script ends)
 left_over bytes image status words right no_device no_source no_sink outcomes.NotBuilt (inl other) (inl is) = absurd (other_or_reads bytes other.0 right.script.0 other.1 right.script.1)
-left_over bytes image status words right no_device no_source no_sink outcomes.NotBuilt (inr written) (inl is) = absurd (never_written image written.1 right.volume)
+left_over bytes image status words right no_device no_source no_sink outcomes.NotBuilt (inr written) (inl is) = absurd (never_other image written.1 right.volume)
 left_over bytes image status words right no_device no_source no_sink (outcomes.NoVolume kind) ends (inl is) = absurd (never_refused kind image ends.1 right.volume)
 left_over bytes image status words right no_device no_source no_sink (outcomes.Ended endings.Ok) ends (inl is) = inl is
 left_over bytes image status words right no_device no_source no_sink (outcomes.Ended (endings.Stopped whys.Device)) ends (inl is) = absurd (no_device is)
@@ -70,9 +70,9 @@ complete words bytes image status faults now before after whole r right no_devic
       | inr ends ↦ left_over bytes image status words right no_device no_source no_sink r.outcome ends.1 r.answers
     ]
 
-refused_or_written : (kind : NoVolume) (image : Image) → RefusesHead kind image.geometry (good_super image 0) → IsWritten image → ⊥
-refused_or_written NoSuperBlock image none w = no_head w.0 (sym none ∙ w.2.good)
-refused_or_written Layout image bad w = bad.2 (subst (λ (s : Super). Fits image.geometry s.layout) (one_head w.0 bad.0 (sym w.2.good ∙ bad.1)) w.2.fits)
+refused_or_other : (kind : NoVolume) (image : Image) → RefusesHead kind image.geometry (good_super image 0) → HasOtherData image → ⊥
+refused_or_other NoSuperBlock image none w = no_head w.0 (sym none ∙ w.2.good)
+refused_or_other Layout image bad w = bad.2 (subst (λ (s : Super). Fits image.geometry s.layout) (one_head w.0 bad.0 (sym w.2.good ∙ bad.1)) w.2.fits)
 
 one_kind : (k l : NoVolume) (image : Image) → RefusesHead k image.geometry (good_super image 0) → RefusesHead l image.geometry (good_super image 0) → k ≡ l
 one_kind NoSuperBlock NoSuperBlock image h i = refl
@@ -90,15 +90,15 @@ one_ending bytes image (outcomes.Ended (endings.Stopped why)) p d e h k = absurd
 one_ending bytes image o (outcomes.Ended (endings.Stopped why)) d e h k = absurd e
 one_ending bytes image outcomes.NotBuilt outcomes.NotBuilt d e h k = refl
 one_ending bytes image outcomes.NotBuilt (outcomes.NoVolume l) d e (inl other) k = absurd (other_or_reads bytes other.0 k.0.0 other.1 k.0.1)
-one_ending bytes image outcomes.NotBuilt (outcomes.NoVolume l) d e (inr w) k = absurd (refused_or_written l image k.1 w.1)
+one_ending bytes image outcomes.NotBuilt (outcomes.NoVolume l) d e (inr w) k = absurd (refused_or_other l image k.1 w.1)
 one_ending bytes image outcomes.NotBuilt (outcomes.Ended endings.Ok) d e (inl other) k = absurd (other_or_reads bytes other.0 k.0.0 other.1 k.0.1)
-one_ending bytes image outcomes.NotBuilt (outcomes.Ended endings.Ok) d e (inr w) k = absurd (never_written image w.1 k.1)
+one_ending bytes image outcomes.NotBuilt (outcomes.Ended endings.Ok) d e (inr w) k = absurd (never_other image w.1 k.1)
 one_ending bytes image (outcomes.NoVolume l) outcomes.NotBuilt d e h (inl other) = absurd (other_or_reads bytes other.0 h.0.0 other.1 h.0.1)
-one_ending bytes image (outcomes.NoVolume l) outcomes.NotBuilt d e h (inr w) = absurd (refused_or_written l image h.1 w.1)
+one_ending bytes image (outcomes.NoVolume l) outcomes.NotBuilt d e h (inr w) = absurd (refused_or_other l image h.1 w.1)
 one_ending bytes image (outcomes.NoVolume l) (outcomes.NoVolume m) d e h k = ap outcomes.NoVolume (one_kind l m image h.1 k.1)
 one_ending bytes image (outcomes.NoVolume l) (outcomes.Ended endings.Ok) d e h k = absurd (never_refused l image h.1 k.1)
 one_ending bytes image (outcomes.Ended endings.Ok) outcomes.NotBuilt d e h (inl other) = absurd (other_or_reads bytes other.0 h.0.0 other.1 h.0.1)
-one_ending bytes image (outcomes.Ended endings.Ok) outcomes.NotBuilt d e h (inr w) = absurd (never_written image w.1 h.1)
+one_ending bytes image (outcomes.Ended endings.Ok) outcomes.NotBuilt d e h (inr w) = absurd (never_other image w.1 h.1)
 one_ending bytes image (outcomes.Ended endings.Ok) (outcomes.NoVolume m) d e h k = absurd (never_refused m image k.1 h.1)
 one_ending bytes image (outcomes.Ended endings.Ok) (outcomes.Ended endings.Ok) d e h k = refl
 one_ending bytes image (outcomes.BadScript m v) (outcomes.BadScript n w) d e h k = let same = one_refusal bytes h k in ap₂ (λ (l : ℕ) (y : BadLine). outcomes.BadScript l y) same.0 same.1

@@ -1,6 +1,7 @@
-pub mod OpeningLaws
+pub mod TableLaws
 pub mod PieceLaws
-pub mod ZeroLaws
+pub mod BlockLaws
+pub mod BaseLaws
 pub mod SinkLaws
 pub mod ReportLaws
 pub mod RunLaws

@@ -1,5 +1,6 @@
 -- How the report of a run comes together.
 use Rattle.std.proofs.Common.{◌≡◌, ◌⊎◌, ℕ, ◌/◌, ◌≤◌, List, [], length, map, Option, refl, sym, ap, ◌∙◌, subst, inl, inr, arith}
+use Rattle.zd_base.specs.Faults.{Rose}
 use Rattle.zd_base.specs.declared.numbers.Why.TheVariants as whys
 use Rattle.zd_model.specs.Image.{Image}
 use Rattle.zd_model.specs.History.{HistoryEntry, mark_of_piece, marks_of_caller}
@@ -20,7 +21,7 @@ use Rattle.zd_script.specs.declared.fault.ScriptFault.{ScriptFault}
 use Rattle.zd_script.specs.declared.fault.ScriptFault.TheVariants as scripts
 use Rattle.zd_replay.specs.declared.opening.OpenFault.{OpenFault}
 use Rattle.zd_replay.specs.declared.opening.OpenFault.TheVariants as opens
-use Rattle.zd_replay.specs.Replay.{Takes, Tells, HasStatus, IsHistory, IsCommand, IsRunnable, Comes, Ends, open_outcome, script_outcome, Reports, fault_count, no_memory}
+use Rattle.zd_replay.specs.Replay.{Takes, Tells, HasStatus, IsHistory, IsCommand, IsRunnable, Comes, Ends, open_outcome, script_outcome, Reports, AreCounted, no_memory}
 
 -- the text of an outcome alone
 alone_text : (outcome : Outcome) → output [] outcome ≡ outcome_text outcome
@@ -52,13 +53,17 @@ nothing image plan whole none = record {
 not_memory : no_memory ≡ outcomes.Ended endings.Ok → ⊥
 not_memory e = let f = ap status_of e in omega arith
 
+-- no entries have no faults
+none_counted : (faults now : ℕ) → faults ≤ now → AreCounted [] faults now
+none_counted faults now later = record { later = later; rise = λ small. omega arith; none = λ faultless. refl }
+
 -- what was told of a run is its report
 pub reports : (words : List (List ℕ)) (bytes : List ℕ) (image : Image) (plan : List Request) (history : List HistoryEntry) (outcome : Outcome) (status faults now : ℕ) (before : List ℕ) (after : Option (List ℕ)) (whole : Type 0)
     → IsCommand words → IsScriptOfReads bytes plan → Ends bytes image outcome
-    → IsHistory image plan history (outcome ≡ outcomes.Ended endings.Ok) → fault_count history ≡ 0 → faults ≤ now
+    → IsHistory image plan history (outcome ≡ outcomes.Ended endings.Ok) → AreCounted history faults now → (status ≡ 4 → ⊥)
     → Tells history outcome status before after whole
     → Reports words bytes image status faults now before after whole
-reports words bytes image plan history outcome status faults now before after whole right script ends entries none later t =
+reports words bytes image plan history outcome status faults now before after whole right script ends entries counted no_device t =
     record {
       plan = plan;
       history = t.entries;
@@ -73,14 +78,11 @@ reports words bytes image plan history outcome status faults now before after wh
         | inl same ↦ told_history same.0 same.1
         | inr same ↦ subst (λ (h : List HistoryEntry). IsHistory image plan h (t.ending ≡ outcomes.Ended endings.Ok)) (sym same.0) (nothing image plan (t.ending ≡ outcomes.Ended endings.Ok) (λ e. not_memory (sym same.1 ∙ e)))
       ];
-      counted = record {
-        later = later;
-        rise = λ small. elim t.which [
-          | inl same ↦ (let count : fault_count t.entries ≡ 0 = ap fault_count same.0 ∙ none in omega arith)
-          | inr same ↦ (let count : fault_count t.entries ≡ 0 = ap fault_count same.0 in omega arith)
-        ];
-        none = λ faultless. elim t.which [ inl same ↦ ap fault_count same.0 ∙ none | inr same ↦ ap fault_count same.0 ];
-      };
+      counted = elim t.which [
+        | inl same ↦ subst (λ (h : List HistoryEntry). AreCounted h faults now) (sym same.0) counted
+        | inr same ↦ subst (λ (h : List HistoryEntry). AreCounted h faults now) (sym same.0) (none_counted faults now counted.later)
+      ];
+      device = λ four. absurd (no_device four);
       told = t.taken;
     }
   where
@@ -91,10 +93,10 @@ reports words bytes image plan history outcome status faults now before after wh
 
 -- the report of a run that ended before anything was entered
 pub reports_alone : (words : List (List ℕ)) (bytes : List ℕ) (image : Image) (outcome : Outcome) (status faults now : ℕ) (before : List ℕ) (after : Option (List ℕ)) (whole : Type 0)
-    → Comes words bytes image outcome → (outcome ≡ outcomes.Ended endings.Ok → ⊥) → faults ≤ now
+    → Comes words bytes image outcome → (outcome ≡ outcomes.Ended endings.Ok → ⊥) → faults ≤ now → (status ≡ 4 → Rose faults now)
     → HasStatus outcome status → Takes before after (output [] outcome) whole
     → Reports words bytes image status faults now before after whole
-reports_alone words bytes image outcome status faults now before after whole cause undone later answers taken = record {
+reports_alone words bytes image outcome status faults now before after whole cause undone later rose answers taken = record {
   plan = [];
   history = [];
   outcome = outcome;
@@ -102,9 +104,15 @@ reports_alone words bytes image outcome status faults now before after whole cau
   cause = cause;
   answers = answers;
   entries = nothing image [] (outcome ≡ outcomes.Ended endings.Ok) undone;
-  counted = record { later = later; rise = λ small. omega arith; none = λ faultless. refl };
+  counted = none_counted faults now later;
+  device = λ four small. (let r = rose four in omega arith);
   told = taken;
 }
+
+-- an outcome with another status doesn't end with 4
+pub not_four : (outcome : Outcome) (status : ℕ) → HasStatus outcome status → (status_of outcome ≡ 4 → ⊥) → status ≡ 4 → ⊥
+not_four outcome status (inl is) other four = other (sym is ∙ four)
+not_four outcome status (inr is) other four = (let six = is.0 in omega arith)
 
 -- a disk that can't be opened ends the run so
 pub ends_unopened : (fault : OpenFault) (bytes : List ℕ) (image : Image) → IsRunnable bytes → Explains fault image → Ends bytes image (open_outcome fault)
@@ -118,6 +126,13 @@ unopened opens.Device e = let f = ap status_of e in omega arith
 unopened (opens.NoVolume kind) e = let f = ap status_of e in omega arith
 unopened opens.NotBuilt e = let f = ap status_of e in omega arith
 unopened opens.Memory e = let f = ap status_of e in omega arith
+
+-- of these the disk's fault alone has status 4
+pub device_fault : (fault : OpenFault) (status : ℕ) → HasStatus (open_outcome fault) status → status ≡ 4 → fault ≡ opens.Device
+device_fault opens.Device status h four = refl
+device_fault (opens.NoVolume kind) status h four = absurd (not_four (open_outcome (opens.NoVolume kind)) status h (λ e. omega arith) four)
+device_fault opens.NotBuilt status h four = absurd (not_four (open_outcome opens.NotBuilt) status h (λ e. omega arith) four)
+device_fault opens.Memory status h four = absurd (not_four (open_outcome opens.Memory) status h (λ e. omega arith) four)
 
 -- a script that can't be read ends the run so
 pub ends_unread : (fault : ScriptFault) (bytes : List ℕ) (image : Image) → ((line : ℕ) (why : BadLine) → fault ≡ scripts.Bad line why → Refuses bytes line why) → Ends bytes image (script_outcome fault)
@@ -148,17 +163,29 @@ ended e f h = cc
 pub history_of : (image : Image) (plan : List Request) (history : List HistoryEntry) (ending : Ending) → IsHistory image plan history (ending ≡ endings.Ok) → IsHistory image plan history (outcomes.Ended ending ≡ outcomes.Ended endings.Ok)
 history_of image plan history ending h = record { legal = h.legal; ordered = h.ordered; all = λ e. h.all (ended ending endings.Ok e) }
 
+-- a run of reads that was told doesn't end with 4
+pub ran_not_four : (ending : Ending) (history : List HistoryEntry) (status : ℕ) (before : List ℕ) (after : Option (List ℕ)) (whole : Type 0) → (ending ≡ endings.Ok) ⊎ (ending ≡ endings.Stopped whys.Memory)
+    → Tells history (outcomes.Ended ending) status before after whole → status ≡ 4 → ⊥
+ran_not_four ending history status before after whole how t =
+    not_four t.ending status t.answers (λ four. elim t.which [
+      | inl same ↦ elim how [
+        | inl ok ↦ (let s = ap status_of (same.1 ∙ ap outcomes.Ended ok) in omega arith)
+        | inr stopped ↦ (let s = ap status_of (same.1 ∙ ap outcomes.Ended stopped) in omega arith)
+      ]
+      | inr same ↦ (let s = ap status_of same.1 in omega arith)
+    ])
+
 pub no_usage : outcomes.Usage ≡ outcomes.Ended endings.Ok → ⊥
 no_usage e = let f = ap status_of e in omega arith
 
 -- the report of a run whose script couldn't be read
 pub reports_unread : (words : List (List ℕ)) (bytes : List ℕ) (image : Image) (outcome : Outcome) (status faults now : ℕ) (before : List ℕ) (after : Option (List ℕ)) (whole : Type 0)
-    → IsCommand words → Ends bytes image outcome → (outcome ≡ outcomes.Ended endings.Ok → ⊥) → faults ≤ now
+    → IsCommand words → Ends bytes image outcome → (outcome ≡ outcomes.Ended endings.Ok → ⊥) → faults ≤ now → (status ≡ 4 → ⊥)
     → Tells [] outcome status before after whole
     → Reports words bytes image status faults now before after whole
-reports_unread words bytes image outcome status faults now before after whole right ends undone later t =
+reports_unread words bytes image outcome status faults now before after whole right ends undone later no_device t =
     let none : t.entries ≡ [] = elim t.which [ inl same ↦ same.0 | inr same ↦ same.0 ] in
     let why : Ends bytes image t.ending = elim t.which [ inl same ↦ subst (Ends bytes image) (sym same.1) ends | inr same ↦ subst (Ends bytes image) (sym same.1) tt ] in
     let open_end : t.ending ≡ outcomes.Ended endings.Ok → ⊥ = elim t.which [ inl same ↦ (λ e. undone (sym same.1 ∙ e)) | inr same ↦ (λ e. not_memory (sym same.1 ∙ e)) ] in
-    reports_alone words bytes image t.ending status faults now before after whole (inr (right, why)) open_end later t.answers
+    reports_alone words bytes image t.ending status faults now before after whole (inr (right, why)) open_end later (λ four. absurd (no_device four)) t.answers
     (subst (λ (h : List HistoryEntry). Takes before after (output h t.ending) whole) none t.taken)

@@ -21,7 +21,7 @@ use Rattle.zd_script.specs.declared.fault.ScriptFault.TheVariants as scripts
 use Rattle.zd_replay.specs.declared.opening.OpenFault.{OpenFault}
 use Rattle.zd_replay.specs.declared.opening.OpenFault.TheVariants as opens
 use Rattle.zd_replay.specs.Reads.{IsScriptOfReads, IsOtherScript}
-use Rattle.zd_replay.specs.Opening.{Opens, IsWritten, RefusesHead, base_of}
+use Rattle.zd_replay.specs.Opening.{Opens, HasOtherData, RefusesHead, base_of}
 
 -- the words are a command
 abbrev pub IsCommand : List (List ℕ) → Type 0
@@ -38,7 +38,7 @@ Ends bytes image outcomes.Usage = ⊥
 Ends bytes image outcomes.Source = Unit {0}
 Ends bytes image (outcomes.BadScript line why) = Refuses bytes line why
 Ends bytes image outcomes.NotBuilt =
-    ((plan : List Request) × IsOtherScript bytes plan) ⊎ (IsRunnable bytes × IsWritten image)
+    ((plan : List Request) × IsOtherScript bytes plan) ⊎ (IsRunnable bytes × HasOtherData image)
 Ends bytes image (outcomes.NoVolume kind) =
     IsRunnable bytes × RefusesHead kind image.geometry (good_super image 0)
 Ends bytes image (outcomes.Ended endings.Ok) = IsRunnable bytes × Opens image
@@ -150,6 +150,7 @@ pub record Reports
   pub answers : HasStatus outcome status
   pub entries : IsHistory image plan history (outcome ≡ outcomes.Ended endings.Ok)
   pub counted : AreCounted history faults now
+  pub device : status ≡ 4 → now < 2 ^ 64 - 1 → fault_count history + faults < now
   pub told : Takes before after (output history outcome) whole
 
 -- where the disk tells its zones, the source its bytes and the sink what it took

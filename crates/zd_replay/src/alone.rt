@@ -1,13 +1,12 @@
 //! A run by one caller, from words and bytes to the report.
 
-ghost use Rattle.std.specs.Prelude.{◌≡◌, ◌⊎◌, ◌↔◌, ◌≤◌, ◌==◌, ℕ, List, [], ◌∷◌, map, string_bytes, IfOk, Err, IsTrue};
+ghost use Rattle.std.specs.Prelude.{◌≡◌, ◌⊎◌, Some, ◌↔◌, ◌≤◌, ◌==◌, ℕ, List, [], ◌∷◌, map, string_bytes, IfOk, Err, IsTrue};
 ghost use Rattle.zd_base.specs.Faults.{Rose};
-ghost use Rattle.zd_base.specs.Layout.{Fits};
 ghost use Rattle.zd_disk.specs.Told.{WhereTold};
 ghost use Rattle.zd_model.specs.Image.{Image};
-ghost use Rattle.zd_replay.specs.Opening.{IsOpened, Opens};
+ghost use Rattle.zd_replay.specs.Opening.{IsOpened, IsUsable, Opens};
 ghost use Rattle.zd_replay.specs.Reads.{IsNoScriptOfReads, IsScriptOfReads};
-ghost use Rattle.zd_replay.specs.Replay.{IsCommand, IsRunnable, IsReadPlan, script_outcome, open_outcome, IsHistory, IsRight, IsFaultless, IsTaken, IsStatus, IsSessionStatus, IsRefusalStatus, Tells, Reports, WhereAllTold, fault_count, no_memory};
+ghost use Rattle.zd_replay.specs.Replay.{IsCommand, IsRunnable, IsReadPlan, script_outcome, open_outcome, IsHistory, IsRight, IsFaultless, IsTaken, IsStatus, IsSessionStatus, IsRefusalStatus, Tells, Reports, WhereAllTold, AreCounted, no_memory};
 
 use crate::opening::{OpenFault, Opened, open};
 use crate::report::{tell_all, tell_alone};
@@ -58,20 +57,29 @@ fn open_outcome(fault: OpenFault) -> Outcome
 }
 
 /// Runs a plan over an opened disk.
-fn run_plan(alloc: Global, opened: &Opened, plan: &Plan) -> (History, Ending)
+fn run_plan<D: ZonedDisk>(
+    alloc: Global,
+    disk: &mut D,
+    opened: &Opened,
+    plan: &Plan,
+) -> (History, Ending)
     requires plan { IsReadPlan plan.now }
-    requires fits { Fits opened.now.geometry opened.now.head.layout }
-    ensures entries { (image : Image) → IsOpened opened.now.geometry opened.now.head image →
-        IsHistory image plan.now result.0.items (result.1 ≡ Ending.Ok) }
-    ensures counted { fault_count result.0.items ≡ 0 }
+    requires told { D.told disk.old ≡ Some opened.now.geometry }
+    requires usable { IsUsable opened.now.geometry opened.now.head.layout opened.now.blocks }
+    ensures entries { WhereTold (D.zones disk.old) (λ image.
+        IsOpened opened.now.geometry opened.now.head opened.now.blocks image →
+        IsHistory image plan.now result.0.items (result.1 ≡ Ending.Ok)) }
+    ensures counted { AreCounted result.0.items (D.faults disk.old) (D.faults disk.new) }
     ensures ending { (result.1 ≡ Ending.Ok) ⊎ (result.1 ≡ Ending.Stopped Why.Memory) }
+    ensures zones { D.zones disk.new ≡ D.zones disk.old }
+    ensures calls { D.calls disk.new ≡ D.calls disk.old }
 {
     let zone_blocks = opened.geometry.zone_blocks();
     let blocks = u64::from(opened.head.layout.chunks) * u64::from(zone_blocks);
     let Ok(pieces) = pieces(alloc, plan, zone_blocks, blocks) else {
         return (History::new(alloc), Ending::Stopped(Why::Memory));
     };
-    run(alloc, &pieces)
+    run(alloc, disk, opened, &pieces)
 }
 
 /// Opens the disk, runs the plan and tells the report.
@@ -92,13 +100,15 @@ fn session<D: ZonedDisk, K: Sink>(alloc: Global, disk: &mut D, plan: &Plan, out:
         Ok(opened) => opened,
         Err(fault) => return tell_alone(out, open_outcome(fault)),
     };
-    let (history, ending) = run_plan(alloc, &opened, plan);
+    let (history, ending) = run_plan(alloc, disk, &opened, plan);
     tell_all(alloc, out, &history, Outcome::Ended(ending))
 }
 
 /// Runs the script of one caller over a disk, and writes the report. It hands the disk back.
 ///
-/// So far it answers reads by caller 0 of a volume that nobody wrote, by the first set of metadata.
+/// So far it answers reads by caller 0, by the first set of metadata, of a volume whose data stand in
+/// conventional zones. A read whose device call failed is answered `fault`, and the run goes on.
+///
 /// The status is 0 where all was done, 1 where the words are no command, 2 where the bytes are no
 /// script, 3 where the image is no volume, 4 where the disk failed in opening, 5 where the source
 /// failed, 6 where the sink failed and nothing else was wrong, 7 where no memory was found, and 11

@@ -8,10 +8,10 @@ ghost use Rattle.zd_model.specs.Volume.{good_super, if_own};
 ghost use Rattle.zd_disk.specs.Told.{WhereTold};
 ghost use Rattle.zd_replay.specs.Opening.{RefusesHead};
 
-use crate::blocks::read_block;
-use zd_base::{Failed, Geometry};
+use zd_base::{BLOCK, Failed, Geometry, ZoneNo};
 use zd_disk::ZonedDisk;
 use zd_model::{NoVolume, Super};
+use zd_sets::read_block;
 use zd_super::decode;
 
 /// The head that a block at the front of the disk stands for, where it is good there.
@@ -26,13 +26,8 @@ fn head_of(block: &[u8]) -> Option<Super>
 }
 
 /// Reads the super block of the first set; none where it isn't good.
-pub fn read_super<D: ZonedDisk>(
-    disk: &mut D,
-    geometry: &Geometry,
-    block: &mut [u8],
-) -> Result<Option<Super>, Failed>
+pub fn read_super<D: ZonedDisk>(disk: &mut D, geometry: &Geometry) -> Result<Option<Super>, Failed>
     requires told { D.told disk.old ≡ Some geometry.now }
-    requires size { length block.old ≡ 4096 }
     ensures value { IfOk result (λ head. WhereTold (D.zones disk.old) (λ i. good_super i 0 ≡ head)) }
     ensures told { D.told disk.new ≡ D.told disk.old }
     ensures zones { D.zones disk.new ≡ D.zones disk.old }
@@ -40,8 +35,9 @@ pub fn read_super<D: ZonedDisk>(
     ensures cause { HasCause (D.faults disk.old) (D.faults disk.new) result }
 {
     let _conv = geometry.conv();
-    read_block(disk, geometry, 0, 0, block)?;
-    Ok(head_of(block))
+    let mut block = [0; BLOCK];
+    read_block(disk, geometry, ZoneNo(0), 0, &mut block)?;
+    Ok(head_of(&block))
 }
 
 /// The head of the first set, if the layout fits.

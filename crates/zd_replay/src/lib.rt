@@ -2,14 +2,14 @@
 #![tactic(auto)]
 
 mod alone;
-mod blocks;
 mod head;
 mod laws;
-mod map;
 mod opening;
+mod read;
 mod report;
 mod run;
 mod scripts;
+mod tables;
 mod words;
 
 pub use alone::replay_alone;

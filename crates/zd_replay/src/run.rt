@@ -1,32 +1,79 @@
-//! The run of a plan over a volume that nobody wrote.
+//! The run of a plan of reads.
 
-ghost use Rattle.std.specs.Prelude.{◌≡◌, ◌⊎◌, length, map, take, replicate, ◌*◌, IfOk};
-ghost use Rattle.zd_model.specs.Entries.{entry_of};
-ghost use Rattle.zd_replay.specs.Run.{zeros_for};
+ghost use Rattle.std.specs.Prelude.{◌≡◌, ◌⊎◌, ◌*◌, ◌≤◌, ◌++◌, ◌∷◌, [], ℕ, map, Some, IfOk, OnOk, OnErr};
+ghost use Rattle.std.specs.List.{AllByRecursion};
+ghost use Rattle.zd_base.specs.Faults.{Rose};
+ghost use Rattle.zd_base.specs.Layout.{device_blocks};
+ghost use Rattle.zd_disk.specs.Told.{WhereTold};
+ghost use Rattle.zd_model.specs.Entries.{answer_of, entry_of};
+ghost use Rattle.zd_model.specs.History.{mark_of_entry, mark_of_piece};
+ghost use Rattle.zd_model.specs.Plain.Answer.{Fault};
+ghost use Rattle.zd_replay.specs.Opening.{IsOpened, IsUsable, base_of};
+ghost use Rattle.zd_replay.specs.Replay.{AreCounted};
+ghost use Rattle.zd_replay.specs.Run.{Begins, IsAnswer, IsReadEntry, IsReadPiece};
 
+use crate::opening::Opened;
+use crate::read::read_data;
 use std::alloc::Global;
-use zd_base::{BLOCK, Memory, Why};
-use zd_plain::{Bytes, Ending, Entry, History, Piece, Reply, block_count};
+use zd_base::{Memory, Why};
+use zd_disk::ZonedDisk;
+use zd_plain::{Ending, Entry, History, Piece, Reply, block_count, first_block};
 
-/// The bytes of so many blocks that nobody wrote.
-fn zeros(alloc: Global, blocks: u32) -> Result<Bytes, Memory>
-    ensures { IfOk result (λ bytes. bytes.items ≡ replicate (4096 * blocks) 0) }
+/// The reply to a piece: what the volume serves, that the request ends past the device, or that a call of
+/// the disk failed.
+fn reply_to<D: ZonedDisk>(
+    alloc: Global,
+    disk: &mut D,
+    opened: &Opened,
+    piece: &Piece,
+) -> Result<Reply, Memory>
+    requires told { D.told disk.old ≡ Some opened.now.geometry }
+    requires usable { IsUsable opened.now.geometry opened.now.head.layout opened.now.blocks }
+    requires piece { IsReadPiece opened.now.geometry.zone_blocks
+        (8 * device_blocks opened.now.geometry opened.now.head.layout) piece.now }
+    ensures reply { IfOk result (λ reply. WhereTold (D.zones disk.old) (λ image.
+        IsOpened opened.now.geometry opened.now.head opened.now.blocks image →
+        IsAnswer (base_of image) piece.now.what (answer_of reply))) }
+    ensures fault { IfOk result (λ reply. answer_of reply ≡ Fault → Rose (D.faults disk.old) (D.faults disk.new)) }
+    ensures told { D.told disk.new ≡ D.told disk.old }
+    ensures zones { D.zones disk.new ≡ D.zones disk.old }
+    ensures calls { D.calls disk.new ≡ D.calls disk.old }
+    ensures later { D.faults disk.old ≤ D.faults disk.new }
 {
-    let len = BLOCK * blocks as usize;
-    let mut bytes = Bytes::with_room(alloc, len)?;
-    bytes.add_zeros(len);
-    Ok(bytes)
+    if piece.range {
+        return Ok(Reply::Range);
+    }
+    read_data(
+        alloc,
+        disk,
+        opened,
+        first_block(piece.what),
+        block_count(piece.what),
+    )
 }
 
-/// The answer to a read: zeros, or that it ends past the device.
-fn answer(alloc: Global, piece: &Piece) -> Result<Entry, Memory>
-    ensures { IfOk result (λ entry. entry_of entry ≡ zeros_for piece.now) }
+/// The entry of a piece.
+fn answer<D: ZonedDisk>(
+    alloc: Global,
+    disk: &mut D,
+    opened: &Opened,
+    piece: &Piece,
+) -> Result<Entry, Memory>
+    requires told { D.told disk.old ≡ Some opened.now.geometry }
+    requires usable { IsUsable opened.now.geometry opened.now.head.layout opened.now.blocks }
+    requires piece { IsReadPiece opened.now.geometry.zone_blocks
+        (8 * device_blocks opened.now.geometry opened.now.head.layout) piece.now }
+    ensures mark { IfOk result (λ e. mark_of_entry (entry_of e) ≡ mark_of_piece piece.now) }
+    ensures entry { IfOk result (λ e. WhereTold (D.zones disk.old) (λ image.
+        IsOpened opened.now.geometry opened.now.head opened.now.blocks image →
+        IsReadEntry (base_of image) (entry_of e))) }
+    ensures fault { IfOk result (λ e. (entry_of e).reply ≡ Fault → Rose (D.faults disk.old) (D.faults disk.new)) }
+    ensures told { D.told disk.new ≡ D.told disk.old }
+    ensures zones { D.zones disk.new ≡ D.zones disk.old }
+    ensures calls { D.calls disk.new ≡ D.calls disk.old }
+    ensures later { D.faults disk.old ≤ D.faults disk.new }
 {
-    let reply = if piece.range {
-        Reply::Range
-    } else {
-        Reply::Got(zeros(alloc, block_count(piece.what))?)
-    };
+    let reply = reply_to(alloc, disk, opened, piece)?;
     Ok(Entry {
         caller: piece.caller,
         request: piece.request,
@@ -37,18 +84,60 @@ fn answer(alloc: Global, piece: &Piece) -> Result<Entry, Memory>
     })
 }
 
-/// Answers the pieces in their order, until all are answered or no memory is found.
-pub fn run(alloc: Global, pieces: &[Piece]) -> (History, Ending)
-    ensures history { result.0.items ≡ map zeros_for (take (length result.0.items) pieces.now) }
-    ensures ok { result.1 ≡ Ending.Ok → result.0.items ≡ map zeros_for pieces.now }
+/// Answers a piece, and enters it. A refusal enters nothing.
+fn enter<D: ZonedDisk>(
+    alloc: Global,
+    disk: &mut D,
+    opened: &Opened,
+    piece: &Piece,
+    history: &mut History,
+) -> Result<(), Memory>
+    requires told { D.told disk.old ≡ Some opened.now.geometry }
+    requires usable { IsUsable opened.now.geometry opened.now.head.layout opened.now.blocks }
+    requires piece { IsReadPiece opened.now.geometry.zone_blocks
+        (8 * device_blocks opened.now.geometry opened.now.head.layout) piece.now }
+    ensures marks { OnOk result (map mark_of_entry history.new.items
+        ≡ map mark_of_entry history.old.items ++ mark_of_piece piece.now ∷ []) }
+    ensures entries { WhereTold (D.zones disk.old) (λ image.
+        IsOpened opened.now.geometry opened.now.head opened.now.blocks image →
+        AllByRecursion (IsReadEntry (base_of image)) history.old.items →
+        AllByRecursion (IsReadEntry (base_of image)) history.new.items) }
+    ensures counted { (before : ℕ) → AreCounted history.old.items before (D.faults disk.old) →
+        AreCounted history.new.items before (D.faults disk.new) }
+    ensures same { OnErr result (history.new.items ≡ history.old.items) }
+    ensures told { D.told disk.new ≡ D.told disk.old }
+    ensures zones { D.zones disk.new ≡ D.zones disk.old }
+    ensures calls { D.calls disk.new ≡ D.calls disk.old }
+{
+    let entry = answer(alloc, disk, opened, piece)?;
+    history.push(entry)
+}
+
+/// Answers the pieces in their order, until all are answered or no memory is found. A read that failed is
+/// entered, and the run goes on.
+pub fn run<D: ZonedDisk>(
+    alloc: Global,
+    disk: &mut D,
+    opened: &Opened,
+    pieces: &[Piece],
+) -> (History, Ending)
+    requires told { D.told disk.old ≡ Some opened.now.geometry }
+    requires usable { IsUsable opened.now.geometry opened.now.head.layout opened.now.blocks }
+    requires pieces { AllByRecursion (IsReadPiece opened.now.geometry.zone_blocks
+        (8 * device_blocks opened.now.geometry opened.now.head.layout)) pieces.now }
+    ensures order { Begins (map mark_of_piece pieces.now) (map mark_of_entry result.0.items) }
+    ensures all { result.1 ≡ Ending.Ok → map mark_of_entry result.0.items ≡ map mark_of_piece pieces.now }
+    ensures entries { WhereTold (D.zones disk.old) (λ image.
+        IsOpened opened.now.geometry opened.now.head opened.now.blocks image →
+        AllByRecursion (IsReadEntry (base_of image)) result.0.items) }
+    ensures counted { AreCounted result.0.items (D.faults disk.old) (D.faults disk.new) }
     ensures ending { (result.1 ≡ Ending.Ok) ⊎ (result.1 ≡ Ending.Stopped Why.Memory) }
+    ensures zones { D.zones disk.new ≡ D.zones disk.old }
+    ensures calls { D.calls disk.new ≡ D.calls disk.old }
 {
     let mut history = History::new(alloc);
     for piece in pieces {
-        let Ok(entry) = answer(alloc, piece) else {
-            return (history, Ending::Stopped(Why::Memory));
-        };
-        if history.push(entry).is_err() {
+        if let Err(Memory) = enter(alloc, disk, opened, piece, &mut history) {
             return (history, Ending::Stopped(Why::Memory));
         }
     }

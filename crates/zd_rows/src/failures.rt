@@ -32,6 +32,7 @@ fn a_disk_that_fails_in_opening_ends_the_run(rt: HostRuntime) -> Result<(), Fail
         (DeviceCall::Geometry, None, 1),
         (DeviceCall::Read, Some(ZoneNo(0)), 1),
         (DeviceCall::Read, Some(ZoneNo(0)), 2),
+        (DeviceCall::Read, Some(ZoneNo(0)), 15),
     ] {
         let disk = failing(&rt, call, zone, nth)?;
         let disk = expect(&rt, disk, "r 0 0 1;", "end 4 device;", 4)?;

@@ -67,7 +67,7 @@ pub fn map_block(i: usize, zone: u32, buffer: u32) -> [u8; 4096]
 }
 
 /// A bitmap block of a zone of which one of the first eight blocks is valid.
-fn bitmap_block(valid: u8) -> [u8; 4096]
+pub fn bitmap_block(valid: u8) -> [u8; 4096]
     requires { valid < 8 }
 {
     let mut block = [0; 4096];
@@ -144,7 +144,7 @@ pub fn fresh(rt: &(impl Abort + AllocGlobal)) -> Result<MemDisk, Fail> {
 }
 
 /// The pattern of a block of the logical device.
-fn patterned(seed: u32, block: u32) -> [u8; 4096] {
+pub fn patterned(seed: u32, block: u32) -> [u8; 4096] {
     let mut bytes = [0; 4096];
     for i in 0..8u32 {
         let at = SECTOR * i as usize;

@@ -1,6 +1,6 @@
 //! A volume whose sets take many zones, and whose map takes many blocks.
 
-use crate::fresh::{NONE, flush, format, map_block, put};
+use crate::fresh::{NONE, bitmap_block, flush, format, map_block, patterned, put};
 use crate::run::expect;
 use std::test::Fail;
 use zd_base::{Geometry, Layout};
@@ -32,6 +32,12 @@ fn all_chunks_of_a_large_volume_are_looked_at(rt: HostRuntime) -> Result<(), Fai
     let mut disk = expect(&rt, disk, "", "end 0 ok;", 0)?;
     put(&rt, &mut disk, 1, 0, &map_block(0, 1300, NONE))?;
     flush(&mut disk)?;
-    expect(&rt, disk, "", "end 11 not-built;", 11)?;
+    let mut disk = expect(&rt, disk, "", "end 11 not-built;", 11)?;
+    put(&rt, &mut disk, 1, 0, &map_block(0, 1200, NONE))?;
+    put(&rt, &mut disk, 151, 1, &bitmap_block(5))?;
+    put(&rt, &mut disk, 1200, 5, &patterned(9, 28_677))?;
+    flush(&mut disk)?;
+    let output = "0 1 0 r 28671 1 data z8 @0;0 1 1 r 28672 8 data z40,p9x8,z16 @0;end 0 ok;";
+    expect(&rt, disk, "r 0 28671 9;", output, 0)?;
     Ok(())
 }

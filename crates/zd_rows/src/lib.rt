@@ -5,6 +5,8 @@
 #![tactic(auto)]
 
 #[cfg(test)]
+mod data;
+#[cfg(test)]
 mod failures;
 #[cfg(test)]
 mod formatting;

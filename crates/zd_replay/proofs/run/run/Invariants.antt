@@ -1,7 +1,23 @@
 use Rattle.std.proofs.Common.{◌≡◌, take, map}
-use Rattle.zd_replay.specs.Run.{zeros_for}
+use Rattle.std.specs.List.{AllByRecursion}
+use Rattle.zd_disk.specs.Told.{WhereTold}
+use Rattle.zd_model.specs.History.{mark_of_entry, mark_of_piece}
+use Rattle.zd_replay.specs.Opening.{IsOpened, base_of}
+use Rattle.zd_replay.specs.Replay.{AreCounted}
+use Rattle.zd_replay.specs.Run.{IsReadEntry}
 use Rattle.zd_replay.proofs.run.run.Given as goal
 
 -- the pieces so far are answered
 abbrev pub invariant-loop-piece : goal.invariant-loop-piece
-invariant-loop-piece l = l.history.items ≡ map zeros_for (take l.piece-index l.pieces)
+invariant-loop-piece g l =
+    let d = g.D.ZonedDisk in
+    record {
+      told : d.told l.disk ≡ d.told l.fn.disk;
+      zones : d.zones l.disk ≡ d.zones l.fn.disk;
+      calls : d.calls l.disk ≡ d.calls l.fn.disk;
+      marks : map mark_of_entry l.history.items ≡ map mark_of_piece (take l.piece-index l.pieces);
+      entries : WhereTold (d.zones l.fn.disk) (λ image.
+          IsOpened l.opened.geometry l.opened.head l.opened.blocks image →
+          AllByRecursion (IsReadEntry (base_of image)) l.history.items);
+      counted : AreCounted l.history.items (d.faults l.fn.disk) (d.faults l.disk);
+    }

@@ -1,6 +1,6 @@
 use Rattle.std.proofs.Common.{sym, ◌∙◌, arith}
 use Rattle.zd_disk.proofs.ToldLaws.{IfSome-each, Some-same}
-use Rattle.zd_replay.proofs.blocks.read_block.Goals as goal
+use Rattle.zd_sets.proofs.read.read_block.Goals as goal
 
 -- a conventional zone holds all its sectors
 pub read-requires-clause-below : goal.read-requires-clause-below
