@@ -9,3 +9,5 @@ pub mod DiskCalls
 pub mod ChoiceLaws
 pub mod EachChosen
 pub mod InsideLaws
+pub mod Gathering
+pub mod Stopping

@@ -2,6 +2,7 @@ pub mod Fails
 pub mod Calls
 pub mod Records
 pub mod Recorded
+pub mod Events
 pub mod RecordedStores
 pub mod Stored
 pub mod Stores

@@ -2,11 +2,13 @@
 #![tactic(auto)]
 
 pub mod choices;
+mod events;
 mod fails;
 mod memory;
 mod record;
 mod recorded;
 mod store;
 
+pub use choices::{Choices, StopFault};
 pub use fails::{DeviceCall, Fail};
 pub use memory::MemDisk;

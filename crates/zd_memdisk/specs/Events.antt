@@ -1,0 +1,60 @@
+-- What recorded calls did to zones, one event after another.
+use Rattle.std.specs.Prelude.{ℕ, ◌+◌, ◌*◌, ◌<◌, ◌≤◌, ◌^◌, Bool, true, false, List, [], ◌∷◌, ◌++◌, map, take, drop, ⊤}
+use Rattle.std.specs.List.{AllByRecursion}
+use Rattle.zd_model.specs.Left.{Event, Call}
+use Rattle.zd_model.specs.Left.Call.{Does, Flushes}
+use Rattle.zd_memdisk.specs.Calls.{byte_count, call_by}
+use Rattle.zd_memdisk.specs.declared.record.Noted.{Noted}
+use Rattle.zd_memdisk.specs.declared.record.WritingCall.{WritingCall}
+use Rattle.zd_memdisk.specs.declared.record.WritingCall.TheVariants.{Write, Reset, Flush}
+use Rattle.zd_memdisk.specs.declared.events.RecordedEvent.{RecordedEvent}
+use Rattle.zd_memdisk.specs.declared.events.RecordedEvent.TheVariants.{Put, Clear}
+use Rattle.zd_memdisk.specs.declared.events.Gathered.{Gathered}
+
+-- the event, with its value from the bytes of the record
+abbrev pub event_of : List ℕ → RecordedEvent → Event
+event_of bytes (Put zone sector at) = Event.Put zone sector (take 512 (drop at bytes))
+event_of bytes (Clear zone) = Event.Clear zone
+
+abbrev pub events_in : List ℕ → List RecordedEvent → List Event
+events_in bytes events = map (event_of bytes) events
+
+-- the call whose bytes begin there
+abbrev pub call_at : List ℕ → ℕ → WritingCall → Call
+call_at bytes at call = call_by call (take (byte_count call) (drop at bytes))
+
+abbrev pub done_of : Call → List Event
+done_of (Does asked done) = done
+done_of (Flushes ok) = []
+
+-- what was done before the last flush that answered Ok, and since then
+pub record Done : Type 0 where
+  pub before : List Event
+  pub since : List Event
+
+abbrev pub done_in : List ℕ → Gathered → Done
+done_in bytes g = record { before = events_in bytes g.before.items; since = events_in bytes g.done.items }
+
+abbrev pub after_done : Done → Call → Done
+after_done d (Does asked done) = record { before = d.before; since = d.since ++ done }
+after_done d (Flushes true) = record { before = d.before ++ d.since; since = [] }
+after_done d (Flushes false) = d
+
+abbrev pub after_all : Done → List Call → Done
+after_all d [] = d
+after_all d (c ∷ calls) = after_all (after_done d c) calls
+
+abbrev pub done_by : List Call → ℕ → Done
+done_by calls k = after_all (record { before = []; since = [] }) (take k calls)
+
+-- the numbers of the call's sectors fit into their types
+abbrev pub IsFit : WritingCall → Type 0
+IsFit (Write zone start count put) = (put ≤ count) × (start + count < 2 ^ 32)
+IsFit (Reset zone done) = ⊤
+IsFit (Flush ok) = ⊤
+
+abbrev pub FitsAt : ℕ → WritingCall → Type 0
+FitsAt at call = IsFit call × (at + byte_count call < 2 ^ 64)
+
+abbrev pub AreFit : List Noted → Type 0
+AreFit noted = AllByRecursion (λ n. IsFit n.call) noted
