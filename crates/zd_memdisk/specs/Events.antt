@@ -1,6 +1,7 @@
 -- What recorded calls did to zones, one event after another.
-use Rattle.std.specs.Prelude.{ℕ, ◌+◌, ◌*◌, ◌<◌, ◌≤◌, ◌^◌, Bool, true, false, List, [], ◌∷◌, ◌++◌, map, take, drop, ⊤}
+use Rattle.std.specs.Prelude.{◌≡◌, ℕ, ◌+◌, ◌*◌, ◌<◌, ◌≤◌, ◌^◌, Bool, true, false, List, [], ◌∷◌, ◌++◌, length, map, take, drop, ⊤}
 use Rattle.std.specs.List.{AllByRecursion}
+use Rattle.zd_base.specs.Geometry.{Shape, zone_count, zone_sectors}
 use Rattle.zd_model.specs.Left.{Event, Call}
 use Rattle.zd_model.specs.Left.Call.{Does, Flushes}
 use Rattle.zd_memdisk.specs.Calls.{byte_count, call_by}
@@ -58,3 +59,22 @@ FitsAt at call = IsFit call × (at + byte_count call < 2 ^ 64)
 
 abbrev pub AreFit : List Noted → Type 0
 AreFit noted = AllByRecursion (λ n. IsFit n.call) noted
+
+-- its zone is there, and its sector, with a whole value
+abbrev pub IsEventThere : Shape → Event → Type 0
+IsEventThere g (Event.Put zone sector value) =
+    (zone < zone_count g) × (sector < zone_sectors g) × (length value ≡ 512)
+IsEventThere g (Event.Clear zone) = (g.conv ≤ zone) × (zone < zone_count g)
+
+abbrev pub AreEventsThere : Shape → List Event → Type 0
+AreEventsThere g events = AllByRecursion (IsEventThere g) events
+
+-- the zones and the sectors of the call are there
+abbrev pub IsSound : Shape → WritingCall → Type 0
+IsSound g (Write zone start count put) =
+    (zone < zone_count g) × (start + count ≤ zone_sectors g) × (put ≤ count)
+IsSound g (Reset zone done) = (g.conv ≤ zone) × (zone < zone_count g)
+IsSound g (Flush ok) = ⊤
+
+abbrev pub AreSound : Shape → List Noted → Type 0
+AreSound g noted = AllByRecursion (λ n. IsSound g n.call) noted

@@ -5,6 +5,7 @@ pub mod Recorded
 pub mod Events
 pub mod RecordedStores
 pub mod Stored
+pub mod Alike
 pub mod Stores
 pub mod Laws
 pub mod Disks
