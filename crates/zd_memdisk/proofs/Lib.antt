@@ -9,5 +9,6 @@ pub mod DiskCalls
 pub mod ChoiceLaws
 pub mod EachChosen
 pub mod InsideLaws
+pub mod Walking
 pub mod Gathering
 pub mod Stopping

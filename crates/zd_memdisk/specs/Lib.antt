@@ -12,3 +12,4 @@ pub mod Disks
 pub mod DiskLaws
 pub mod Choices
 pub mod DiskChoices
+pub mod Places

@@ -5,6 +5,7 @@ pub mod choices;
 mod events;
 mod fails;
 mod memory;
+mod places;
 mod record;
 mod recorded;
 mod store;

@@ -1,20 +1,14 @@
 use Rattle.std.proofs.Common.{◌≡◌, ℕ, ◌+◌, ◌-◌, ◌<◌, ◌≤◌, List, [], ◌∷◌, length, take, drop, get_or, Vec, ap, sym, ◌∙◌, subst, arith}
-use Rattle.std.proofs.lemmas.List.{at_drop_more, at_drop_all}
+use Rattle.std.proofs.lemmas.List.{at_drop_all}
 use Rattle.zd_model.specs.Left.{Call, under_way}
 use Rattle.zd_memdisk.specs.Calls.{byte_count, total_bytes, calls_of}
 use Rattle.zd_memdisk.specs.Events.{Done, done_in, after_all, call_at, events_in, AreFit}
 use Rattle.std.specs.declared.alloc.Global.{Global}
 use Rattle.zd_memdisk.specs.declared.events.RecordedEvent.{RecordedEvent}
 use Rattle.zd_memdisk.specs.declared.record.Noted.{Noted}
+use Rattle.zd_memdisk.proofs.Walking.{opened}
 use Rattle.zd_memdisk.proofs.Stopping.{after_skipped, after_none, under_none, step_done, step_under}
 use Rattle.zd_memdisk.proofs.events.gather.Goals as goal
-
--- the call that the loop is at, and those behind it
-opened : (noted : List Noted) (i : ℕ) (n : Noted) → i < length noted → n ≡ get_or noted i n
-    → drop i noted ≡ n ∷ drop (i + 1) noted
-opened noted i n less is =
-    at_drop_more (λ (l : List Noted). l) noted i n less
-    ∙ ap (λ (m : Noted). m ∷ drop (i + 1) noted) (sym is)
 
 pub returns-then-left-noted-clause-done : goal.returns-then-left-noted-clause-done
 returns-then-left-noted-clause-done c bytes skipped sized =
