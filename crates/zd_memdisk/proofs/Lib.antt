@@ -12,3 +12,4 @@ pub mod InsideLaws
 pub mod Walking
 pub mod Gathering
 pub mod Stopping
+pub mod PlaceLaws

@@ -31,6 +31,7 @@ fn first_place(geometry: &Geometry, zone: ZoneNo) -> usize
     requires { zone < zone_count geometry.now }
     ensures value { result ≡ place_of geometry.now zone 0 }
     ensures inside { result < place_count geometry.now }
+    ensures some { 0 < zone_sectors geometry.now }
 {
     let _blocks = geometry.zone_blocks();
     place(geometry, zone, 0)
