@@ -13,3 +13,4 @@ pub mod Walking
 pub mod Gathering
 pub mod Stopping
 pub mod PlaceLaws
+pub mod Applying
