@@ -44,7 +44,7 @@ alike_more old cur new e es whole so_far one =
 -- an event that is there has a place
 pub placed : (g : Shape) (bytes : List ℕ) (e : RecordedEvent) → IsEventThere g (event_of bytes e) → IsPlaced g e
 placed g bytes (recorded.Put z i at) there = (there.0, there.1)
-placed g bytes (recorded.Clear z) there = there.1
+placed g bytes (recorded.Clear z) there = there
 
 -- what an image has in a sector, by what it had there
 pub sector_by : (z i : ℕ) (a b : Image) (es : List Event) → a.sector z i ≡ b.sector z i → (replay a es).sector z i ≡ (replay b es).sector z i

@@ -1,9 +1,11 @@
 -- What recorded calls did to zones, one event after another.
 use Rattle.std.specs.Prelude.{◌≡◌, ℕ, ◌+◌, ◌*◌, ◌<◌, ◌≤◌, ◌^◌, Bool, true, false, List, [], ◌∷◌, ◌++◌, length, map, take, drop, ⊤}
-use Rattle.std.specs.List.{AllByRecursion}
+use Rattle.std.specs.Coded.{×_prop, Unit-prop, le_prop}
+use Rattle.std.specs.List.{AllByRecursion, AllByRecursion-prop}
 use Rattle.zd_base.specs.Geometry.{Shape, zone_count, zone_sectors}
 use Rattle.zd_model.specs.Left.{Event, Call}
 use Rattle.zd_model.specs.Left.Call.{Does, Flushes}
+use Rattle.zd_disk.specs.Told.{IsInside, IsSequentialZone}
 use Rattle.zd_memdisk.specs.Calls.{byte_count, call_by}
 use Rattle.zd_memdisk.specs.declared.record.Noted.{Noted}
 use Rattle.zd_memdisk.specs.declared.record.WritingCall.{WritingCall}
@@ -71,10 +73,17 @@ AreEventsThere g events = AllByRecursion (IsEventThere g) events
 
 -- the zones and the sectors of the call are there
 abbrev pub IsSound : Shape → WritingCall → Type 0
-IsSound g (Write zone start count put) =
-    (zone < zone_count g) × (start + count ≤ zone_sectors g) × (put ≤ count)
-IsSound g (Reset zone done) = (g.conv ≤ zone) × (zone < zone_count g)
+IsSound g (Write zone start count put) = IsInside zone start count g × (put ≤ count)
+IsSound g (Reset zone done) = IsSequentialZone zone g
 IsSound g (Flush ok) = ⊤
+
+IsSound-prop : (g : Shape) (call : WritingCall) → IsProp (IsSound g call)
+IsSound-prop g (Write zone start count put) = ×_prop (×_prop le_prop le_prop) le_prop
+IsSound-prop g (Reset zone done) = ×_prop le_prop le_prop
+IsSound-prop g (Flush ok) = Unit-prop
 
 abbrev pub AreSound : Shape → List Noted → Type 0
 AreSound g noted = AllByRecursion (λ n. IsSound g n.call) noted
+
+pub AreSound-prop : (g : Shape) (noted : List Noted) → IsProp (AreSound g noted)
+AreSound-prop g noted = AllByRecursion-prop (λ n. IsSound g n.call) (λ n. IsSound-prop g n.call) noted

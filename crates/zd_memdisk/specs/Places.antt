@@ -1,10 +1,10 @@
 -- The places at which a stop chooses: each conventional sector, and each sequential zone.
-use Rattle.std.specs.Prelude.{◌≡◌, ℕ, ◌+◌, ◌*◌, ◌<◌, ◌≤◌, ◌==◌, nat_lt, if◌then◌else◌, IsTrue, List, [], ◌∷◌, length, take, slice_index}
+use Rattle.std.specs.Prelude.{◌≡◌, ℕ, ◌+◌, ◌*◌, ◌<◌, ◌≤◌, ◌==◌, nat_lt, if◌then◌else◌, Bool, List, [], ◌∷◌, ◌++◌, length, take, slice_index}
 use Rattle.std.specs.List.{AllByRecursion}
 use Rattle.zd_base.specs.Geometry.{Shape, zone_count, zone_sectors, is_conventional}
 use Rattle.zd_model.specs.Image.{Image}
 use Rattle.zd_model.specs.Left.{Event, apply, replay}
-use Rattle.zd_memdisk.specs.Choices.{SectorItem, ZoneItem, value_chosen, front_chosen}
+use Rattle.zd_memdisk.specs.Choices.{SectorItem, ZoneItem, value_chosen, front_chosen, Moment, value_number, front_number}
 use Rattle.zd_memdisk.specs.declared.events.RecordedEvent.{RecordedEvent}
 use Rattle.zd_memdisk.specs.declared.events.RecordedEvent.TheVariants.{Put, Clear}
 
@@ -27,7 +27,7 @@ on_place g p (e ∷ events) = if event_place g e == p then e ∷ on_place g p ev
 -- the event is done at a place that is there
 abbrev pub IsPlaced : Shape → RecordedEvent → Type 0
 IsPlaced g (Put zone sector at) = (zone < zone_count g) × (sector < zone_sectors g)
-IsPlaced g (Clear zone) = zone < zone_count g
+IsPlaced g (Clear zone) = (g.conv ≤ zone) × (zone < zone_count g)
 
 abbrev pub ArePlaced : Shape → List RecordedEvent → Type 0
 ArePlaced g events = AllByRecursion (IsPlaced g) events
@@ -47,6 +47,13 @@ pub record IsZoneCounted (g : Shape) (counts : List ℕ) (item : ZoneItem) : Typ
   pub zone : item.0 < zone_count g
   pub front : item.1 ≤ slice_index counts (place_of g item.0 0)
 
+-- the item names a place that is there
+abbrev pub IsSectorAt : Shape → SectorItem → Type 0
+IsSectorAt g item = (item.0 < g.conv) × (item.1 < zone_sectors g)
+
+abbrev pub IsZoneAt : Shape → ZoneItem → Type 0
+IsZoneAt g item = (g.conv ≤ item.0) × (item.0 < zone_count g)
+
 -- each place has the number that the items choose for it, or else that of before
 abbrev pub ChoosesValues : Shape → List SectorItem → List ℕ → List ℕ → Type 0
 ChoosesValues g items old new = (z i : ℕ) → z < g.conv → i < zone_sectors g →
@@ -63,3 +70,16 @@ pub record Applies (g : Shape) (numbers : List ℕ) (events : List Event) (old n
       new.sector z i ≡ (replay old (take (slice_index numbers p) (on_place g p events))).sector z i)
   pub held : (z : ℕ) → g.conv ≤ z → (let p = place_of g z 0 in
       new.held z ≡ (replay old (take (slice_index numbers p) (on_place g p events))).held z)
+
+-- a moment's events are these, of which so many were done
+pub record IsMoment (g : Shape) (events : List Event) (done : ℕ) (m : Moment) : Type 0 where
+  pub geometry : m.flushed.geometry ≡ g
+  pub all : m.done ++ m.asked ≡ events
+  pub first : m.done ≡ take done events
+
+-- each place has the number that is chosen at this moment
+pub record IsNumbered (g : Shape) (newest : Bool) (conv : List SectorItem) (seq : List ZoneItem) (m : Moment)
+    (numbers : List ℕ) : Type 0 where
+  pub values : (z i : ℕ) → z < g.conv → i < zone_sectors g →
+      slice_index numbers (place_of g z i) ≡ value_number newest conv m z i
+  pub fronts : (z : ℕ) → g.conv ≤ z → slice_index numbers (place_of g z 0) ≡ front_number newest seq m z

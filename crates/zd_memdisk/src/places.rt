@@ -4,7 +4,7 @@ ghost use Rattle.std.specs.Prelude.{◌≡◌, ◌-◌, ◌<◌, ◌≤◌, ◌�
 ghost use Rattle.std.specs.List.{AllByRecursion};
 ghost use Rattle.zd_base.specs.Geometry.{zone_count, zone_sectors};
 ghost use Rattle.zd_memdisk.specs.Events.{event_of, events_in};
-ghost use Rattle.zd_memdisk.specs.Places.{place_of, place_count, event_place, IsPlaced, ArePlaced, Counts, IsSectorCounted, IsZoneCounted, ChoosesValues, ChoosesFronts};
+ghost use Rattle.zd_memdisk.specs.Places.{place_of, place_count, event_place, IsPlaced, ArePlaced, Counts, IsSectorCounted, IsZoneCounted, IsSectorAt, IsZoneAt, ChoosesValues, ChoosesFronts};
 
 use crate::events::RecordedEvent;
 use zd_base::{Geometry, ZoneNo};
@@ -124,13 +124,8 @@ pub fn are_zones_there(geometry: &Geometry, items: &[(ZoneNo, u64)], counts: &[u
 }
 
 /// Takes the numbers of the items, the last one of each sector.
-pub fn choose_sectors(
-    geometry: &Geometry,
-    items: &[(ZoneNo, u32, u64)],
-    counts: &[u64],
-    numbers: &mut [u64],
-)
-    requires there { AllByRecursion (IsSectorCounted geometry.now counts.now) items.now }
+pub fn choose_sectors(geometry: &Geometry, items: &[(ZoneNo, u32, u64)], numbers: &mut [u64])
+    requires there { AllByRecursion (IsSectorAt geometry.now) items.now }
     requires numbers { length numbers.old ≡ place_count geometry.now }
     ensures values { ChoosesValues geometry.now items.now numbers.old numbers.new }
     ensures same { (z : ℕ) → geometry.now.conv ≤ z →
@@ -143,13 +138,8 @@ pub fn choose_sectors(
 }
 
 /// Takes the numbers of the items, the last one of each zone.
-pub fn choose_zones(
-    geometry: &Geometry,
-    items: &[(ZoneNo, u64)],
-    counts: &[u64],
-    numbers: &mut [u64],
-)
-    requires there { AllByRecursion (IsZoneCounted geometry.now counts.now) items.now }
+pub fn choose_zones(geometry: &Geometry, items: &[(ZoneNo, u64)], numbers: &mut [u64])
+    requires there { AllByRecursion (IsZoneAt geometry.now) items.now }
     requires numbers { length numbers.old ≡ place_count geometry.now }
     ensures fronts { ChoosesFronts geometry.now items.now numbers.old numbers.new }
     ensures same { (z i : ℕ) → z < geometry.now.conv → i < zone_sectors geometry.now →

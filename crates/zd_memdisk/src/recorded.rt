@@ -9,8 +9,9 @@ ghost use Rattle.zd_disk.specs.Told.{next_count, IsSequentialZone, IsInside};
 ghost use Rattle.zd_memdisk.specs.Stored.{IsBlank};
 ghost use Rattle.zd_memdisk.specs.Stores.{store_image};
 ghost use Rattle.zd_memdisk.specs.Calls.{write_call, reset_call};
-ghost use Rattle.zd_memdisk.specs.Records.{record_calls, HasRoom, HasRoomFor, UsesRoom};
+ghost use Rattle.zd_memdisk.specs.Records.{record_calls, HasRoom, HasRoomFor, UsesRoom, IsSoundRecord};
 ghost use Rattle.zd_memdisk.specs.Recorded.{IsRecorded};
+ghost use Rattle.zd_memdisk.specs.Events.{AreSound-prop};
 
 use crate::record::{Record, WritingCall};
 use crate::store::Store;
@@ -24,11 +25,28 @@ pub struct RecordedStore {
     store: Store,
     history: Record,
     calls: u64,
+    ghost sound: { IsSoundRecord store.geometry history } by { AreSound-prop store.geometry history.noted.items },
     ghost recorded: { IsRecorded (store_image first) (store_image store) (record_calls history) calls },
 }
 
 impl RecordedStore {
     ghost use Rattle.zd_memdisk.specs.RecordedStores.{first_image, now_image, calls_by, left_by, IsSameStore, IsNoted};
+
+    // What begins as this store, and has had no calls.
+    fn begun(alloc: Global, store: Store) -> Result<RecordedStore, AllocError>
+        ensures store { IfOk result (λ s. s.store ≡ store) }
+        ensures first { IfOk result (λ s. Same (first_image s) (now_image s)) }
+        ensures history { IfOk result (λ s. calls_by s ≡ []) }
+        ensures calls { IfOk result (λ s. s.calls ≡ 0) }
+    {
+        let first = store.copy(alloc)?;
+        Ok(RecordedStore {
+            first,
+            store,
+            history: Record::new(alloc),
+            calls: 0,
+        })
+    }
 
     /// Zones of zeros with all pointers 0, and no calls.
     pub fn blank(alloc: Global, geometry: Geometry) -> Result<RecordedStore, AllocError>
@@ -37,14 +55,8 @@ impl RecordedStore {
         ensures history { IfOk result (λ s. calls_by s ≡ []) }
         ensures calls { IfOk result (λ s. s.calls ≡ 0) }
     {
-        let first = Store::blank(alloc, geometry)?;
         let store = Store::blank(alloc, geometry)?;
-        Ok(RecordedStore {
-            first,
-            store,
-            history: Record::new(alloc),
-            calls: 0,
-        })
+        RecordedStore::begun(alloc, store)
     }
 
     /// What it is now.

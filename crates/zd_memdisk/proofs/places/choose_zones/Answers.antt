@@ -1,7 +1,7 @@
 use Rattle.std.proofs.Common.{◌≡◌, ◌≢◌, ℕ, ◌+◌, ◌≤◌, List, ◌∷◌, length, drop, get_or, set, ap, sym, ◌∙◌, arith}
 use Rattle.std.proofs.Math.ListN.{length-set}
 use Rattle.zd_memdisk.specs.Choices.{ZoneItem, front_chosen}
-use Rattle.zd_memdisk.specs.Places.{place_of, IsZoneCounted}
+use Rattle.zd_memdisk.specs.Places.{place_of, IsZoneAt}
 use Rattle.zd_memdisk.proofs.Walking.{opened, all_opened}
 use Rattle.zd_memdisk.proofs.PlaceLaws.{chosen_zone, other_zone}
 use Rattle.zd_memdisk.proofs.places.choose_zones.Goals as goal
@@ -15,7 +15,7 @@ loop-item-preserved c =
     let item = c.item-item.result in
     let less = c.loop-item-test.true in
     let behind = drop (k + 1) items in
-    let there = all_opened (IsZoneCounted g c.args.counts.now) items k item less c.item-item.is l.invariant.there in
+    let there = all_opened (IsZoneAt g) items k item less c.item-item.is l.invariant.there in
     let at = c.first_place.ensures.value in
     let some = c.first_place.ensures.some in
     record {
@@ -28,7 +28,7 @@ loop-item-preserved c =
           ∙ sym (ap (λ (r : List ZoneItem). front_chosen r z before) (opened items k item less c.item-item.is))
           ∙ l.invariant.fronts z seq;
       same = λ z i conv li.
-          let apart : item.0 ≢ z = (let h = there.0.sequential in omega arith) in
+          let apart : item.0 ≢ z = (let h = there.0.0 in omega arith) in
           ap (λ (q : ℕ). get_or (set l.numbers q item.1) (place_of g z i) 0) at
           ∙ other_zone g l.numbers item.0 0 item.1 z i some li apart
           ∙ l.invariant.same z i conv li;
