@@ -14,3 +14,4 @@ pub mod Gathering
 pub mod Stopping
 pub mod PlaceLaws
 pub mod Applying
+pub mod PlaceEvents
