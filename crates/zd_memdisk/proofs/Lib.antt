@@ -15,3 +15,4 @@ pub mod Stopping
 pub mod PlaceLaws
 pub mod Applying
 pub mod PlaceEvents
+pub mod Choosing

@@ -1,11 +1,12 @@
 //! What a stop leaves of a store, by choices.
 
-ghost use Rattle.std.specs.Prelude.{◌≡◌, ◌≤◌, ◌↔◌, ℕ, List, length, slice_index, replicate, IfOk, IfErr, IsTrue, if◌then◌else◌};
+ghost use Rattle.std.specs.Prelude.{◌≡◌, ◌<◌, ◌≤◌, ◌↔◌, ℕ, List, length, slice_index, replicate, IfOk, IfErr, IsTrue, if◌then◌else◌};
 ghost use Rattle.std.specs.List.{AllByRecursion};
+ghost use Rattle.zd_base.specs.Geometry.{zone_sectors};
 ghost use Rattle.zd_memdisk.specs.Choices.{Moment, AreThere, IsChosen};
 ghost use Rattle.zd_memdisk.specs.Events.{events_in, AreEventsThere};
 ghost use Rattle.zd_memdisk.specs.Places.{place_count, on_place, ArePlaced, IsSectorAt, IsZoneAt, IsMoment, IsNumbered};
-ghost use Rattle.zd_memdisk.specs.Stopped.{moment_in, AreGatheredThere, Refuses};
+ghost use Rattle.zd_memdisk.specs.Stopped.{moment_in, moment_cut, AreGatheredThere, Refuses};
 ghost use Rattle.zd_memdisk.specs.Stores.{store_image};
 
 use crate::choices::{Choices, StopFault};
@@ -41,9 +42,10 @@ fn are_there(
 {
     let mut counts = zeros(alloc, place_count(geometry))?;
     tally(geometry, events, &mut counts);
-    let sectors = are_sectors_there(geometry, &choices.conv, &counts);
-    let zones = are_zones_there(geometry, &choices.seq, &counts);
-    Ok(sectors && zones)
+    if !are_sectors_there(geometry, &choices.conv, &counts) {
+        return Ok(false);
+    }
+    Ok(are_zones_there(geometry, &choices.seq, &counts))
 }
 
 // The numbers of what isn't named.
@@ -55,13 +57,15 @@ fn first_numbers(
 ) -> Result<Vec<u64>, AllocError>
     requires { ArePlaced geometry.now done.now }
     ensures count { IfOk result (λ v. length v.items ≡ place_count geometry.now) }
+    ensures some { 0 < zone_sectors geometry.now }
     ensures value { IfOk result (λ v. (bytes : List ℕ) (p : ℕ) → slice_index v.items p
         ≡ (if newest then length (on_place geometry.now p (events_in bytes done.now)) else 0)) }
 {
     let mut numbers = zeros(alloc, place_count(geometry))?;
-    if newest {
-        tally(geometry, done, &mut numbers);
+    if !newest {
+        return Ok(numbers);
     }
+    tally(geometry, done, &mut numbers);
     Ok(numbers)
 }
 
@@ -100,6 +104,39 @@ fn numbers(
     Ok(numbers)
 }
 
+// The same with the events in two lists: those before the flush, and those since then, of which the
+// first `done` were done.
+fn stopped_by(
+    alloc: Global,
+    first: &Store,
+    before: &[RecordedEvent],
+    events: &[RecordedEvent],
+    done: usize,
+    bytes: &[u8],
+    choices: &Choices,
+) -> Result<Store, StopFault>
+    requires before { AreEventsThere first.now.geometry (events_in bytes.now before.now) }
+    requires events { AreEventsThere first.now.geometry (events_in bytes.now events.now) }
+    requires few { done ≤ length events.now }
+    ensures ok { IfOk result (λ s. IsChosen choices.now.newest choices.now.conv.items choices.now.seq.items
+        (moment_cut (store_image first.now) (events_in bytes.now before.now)
+        (events_in bytes.now events.now) done) (store_image s)) }
+    ensures there { IfOk result (λ s. AreThere choices.now.conv.items choices.now.seq.items
+        (moment_cut (store_image first.now) (events_in bytes.now before.now)
+        (events_in bytes.now events.now) done)) }
+    ensures err { IfErr result (Refuses choices.now.conv.items choices.now.seq.items
+        (moment_cut (store_image first.now) (events_in bytes.now before.now)
+        (events_in bytes.now events.now) done)) }
+{
+    let mut numbers = numbers(alloc, &first.geometry(), events, done, choices)?;
+    let Ok(mut store) = first.copy(alloc) else {
+        return Err(StopFault::Memory);
+    };
+    store.apply_all(before, bytes);
+    store.apply_chosen(events, bytes, &mut numbers);
+    Ok(store)
+}
+
 /// The store that began as `first`, had the gathered events, and was stopped, by choices.
 pub fn stopped(
     alloc: Global,
@@ -122,11 +159,13 @@ pub fn stopped(
     if events.append(&mut asked).is_err() {
         return Err(StopFault::Memory);
     }
-    let mut numbers = numbers(alloc, &first.geometry(), &events, done, choices)?;
-    let Ok(mut store) = first.copy(alloc) else {
-        return Err(StopFault::Memory);
-    };
-    store.apply_all(&gathered.before, bytes);
-    store.apply_chosen(&events, bytes, &mut numbers);
-    Ok(store)
+    stopped_by(
+        alloc,
+        first,
+        &gathered.before,
+        &events,
+        done,
+        bytes,
+        choices,
+    )
 }
