@@ -5,7 +5,7 @@ ghost use Rattle.std.specs.List.{AllByRecursion};
 ghost use Rattle.zd_base.specs.Geometry.{zone_sectors};
 ghost use Rattle.zd_memdisk.specs.Choices.{Moment, AreThere, IsChosen};
 ghost use Rattle.zd_memdisk.specs.Events.{events_in, AreEventsThere};
-ghost use Rattle.zd_memdisk.specs.Places.{place_count, on_place, ArePlaced, IsSectorAt, IsZoneAt, IsMoment, IsNumbered};
+ghost use Rattle.zd_memdisk.specs.Places.{place_count, on_place, Counts, ArePlaced, IsSectorAt, IsZoneAt, IsMoment, IsNumbered};
 ghost use Rattle.zd_memdisk.specs.Stopped.{moment_in, moment_cut, AreGatheredThere, Refuses};
 ghost use Rattle.zd_memdisk.specs.Stores.{store_image};
 
@@ -24,6 +24,23 @@ fn zeros(alloc: Global, count: usize) -> Result<Vec<u64>, AllocError>
     vec![in alloc; 0u64; count]
 }
 
+// The number of events at each place.
+fn tallied(
+    alloc: Global,
+    geometry: &Geometry,
+    events: &[RecordedEvent],
+) -> Result<Vec<u64>, AllocError>
+    requires { ArePlaced geometry.now events.now }
+    ensures count { IfOk result (λ v. length v.items ≡ place_count geometry.now) }
+    ensures value { IfOk result (λ v. (bytes : List ℕ) →
+        Counts geometry.now (events_in bytes events.now) v.items) }
+    ensures some { 0 < zone_sectors geometry.now }
+{
+    let mut counts = zeros(alloc, place_count(geometry))?;
+    tally(geometry, events, &mut counts);
+    Ok(counts)
+}
+
 // Whether all items name what is there.
 fn are_there(
     alloc: Global,
@@ -40,8 +57,7 @@ fn are_there(
     ensures zones { IfOk result (λ b. IsTrue b →
         AllByRecursion (IsZoneAt geometry.now) choices.now.seq.items) }
 {
-    let mut counts = zeros(alloc, place_count(geometry))?;
-    tally(geometry, events, &mut counts);
+    let counts = tallied(alloc, geometry, events)?;
     if !are_sectors_there(geometry, &choices.conv, &counts) {
         return Ok(false);
     }
@@ -61,12 +77,10 @@ fn first_numbers(
     ensures value { IfOk result (λ v. (bytes : List ℕ) (p : ℕ) → slice_index v.items p
         ≡ (if newest then length (on_place geometry.now p (events_in bytes done.now)) else 0)) }
 {
-    let mut numbers = zeros(alloc, place_count(geometry))?;
-    if !newest {
-        return Ok(numbers);
+    if newest {
+        return tallied(alloc, geometry, done);
     }
-    tally(geometry, done, &mut numbers);
-    Ok(numbers)
+    zeros(alloc, place_count(geometry))
 }
 
 // For each place, how many of its events are chosen; the first `done` events were done.
