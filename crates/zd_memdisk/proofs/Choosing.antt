@@ -6,11 +6,16 @@ use Rattle.zd_model.specs.Image.{Image, IsImage}
 use Rattle.zd_model.specs.Left.{Event, replay, on_zone}
 use Rattle.zd_memdisk.specs.Alike.{IsAlike}
 use Rattle.zd_memdisk.specs.Choices.{SectorItem, ZoneItem, Moment, values_put, values_of, value_chosen, value_number, front_chosen, front_number, IsSectorThere, IsZoneThere, AreThere, IsChosen}
-use Rattle.zd_memdisk.specs.Places.{place_of, on_place, Counts, IsSectorCounted, IsZoneCounted, IsSectorAt, IsZoneAt, ChoosesValues, ChoosesFronts, IsMoment, IsNumbered, Applies}
-use Rattle.zd_memdisk.proofs.Applying.{sector_by, held_by}
+use Rattle.zd_memdisk.specs.Places.{place_of, on_place, Counts, IsSectorCounted, IsZoneCounted, IsSectorAt, IsZoneAt, ChoosesValues, ChoosesFronts, IsMoment, IsNumbered, Applies, ArePlaced}
+use Rattle.zd_memdisk.proofs.Applying.{sector_by, held_by, placed}
+use Rattle.zd_memdisk.specs.Events.{events_in, AreEventsThere}
+use Rattle.zd_memdisk.specs.Stopped.{moment_cut}
+use Rattle.zd_memdisk.specs.declared.events.RecordedEvent.{RecordedEvent}
+use Rattle.zd_model.proofs.EventLaws.{geometry-replay}
+use Rattle.std.proofs.lemmas.List.{take_at, drop_at, take-append-drop}
 use Rattle.zd_memdisk.proofs.ChoiceLaws.{value_there, value_other}
 use Rattle.zd_memdisk.proofs.PlaceLaws.{sequential_place}
-use Rattle.zd_memdisk.proofs.PlaceEvents.{AreAt, take_at, values_count, value_after, zone_events}
+use Rattle.zd_memdisk.proofs.PlaceEvents.{AreAt, front_at, values_count, value_after, zone_events}
 
 pub all_map : {X : Type 0} (P Q : X → Type 0) (xs : List X) → ((x : X) → P x → Q x) → AllByRecursion P xs → AllByRecursion Q xs
 all_map P Q [] f ps = tt
@@ -91,11 +96,11 @@ module _ (g : Shape) (some : 0 < zone_sectors g) (events : List Event) (at : Are
   pub numbered : IsNumbered g newest conv seq m third
   numbered = record {
     values = λ z i h l.
-        let count = sym (values_count g z i l h (take done events) (take_at g done events at)) ∙ ap (λ (es : List Event). length (values_put z i es)) (sym is.first) in
+        let count = sym (values_count g z i l h (take done events) (front_at g done events at)) ∙ ap (λ (es : List Event). length (values_put z i es)) (sym is.first) in
         let start = begin (place_of g z i) ∙ ap (λ (n : ℕ). cond newest n 0) count in
         values_same z i h l ∙ values_chosen z i h l ∙ ap (value_chosen conv z i) start;
     fronts = λ z h.
-        let own = sym (zone_events g z some h (take done events) (take_at g done events at)) ∙ ap (on_zone z) (sym is.first) in
+        let own = sym (zone_events g z some h (take done events) (front_at g done events at)) ∙ ap (on_zone z) (sym is.first) in
         let start = begin (place_of g z 0) ∙ ap (λ (es : List Event). cond newest (length es) 0) own in
         fronts_chosen z h ∙ ap (front_chosen seq z) (fronts_same z h ∙ start);
   }
@@ -150,3 +155,19 @@ module _ (g : Shape) (some : 0 < zone_sectors g) (events : List Event) (at : Are
               ∙ ap (λ (k : List Event). (replay m.flushed k).sector z i) (front z seq_here);
         };
   }
+
+-- the events of a moment that is cut out of a list
+pub cut_moment : (first : Image) (before events : List Event) (done : ℕ) → IsMoment first.geometry events done (moment_cut first before events done)
+cut_moment first before events done =
+    record { geometry = geometry-replay first before; all = take-append-drop done events; first = refl }
+
+-- the events that were done, and those that were asked for behind them
+pub cut_in : (first : Image) (before done asked : List Event) → moment_cut first before (done ++ asked) (length done)
+    ≡ record { flushed = replay first before; done = done; asked = asked }
+cut_in first before done asked =
+    ap (λ (es : List Event). record { flushed = replay first before; done = es; asked = drop (length done) (done ++ asked) }) (take_at done asked (length done) refl)
+    ∙ ap (λ (es : List Event). record { flushed = replay first before; done = done; asked = es }) (drop_at done asked (length done) refl)
+
+pub all_placed : (g : Shape) (bytes : List ℕ) (es : List RecordedEvent) → AreEventsThere g (events_in bytes es) → ArePlaced g es
+all_placed g bytes [] there = tt
+all_placed g bytes (e ∷ es) there = (placed g bytes e there.0, all_placed g bytes es there.1)

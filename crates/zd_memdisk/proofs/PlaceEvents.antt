@@ -30,10 +30,10 @@ pub all_at : (g : Shape) (bytes : List ℕ) (es : List RecordedEvent) → ArePla
 all_at g bytes [] ps = tt
 all_at g bytes (e ∷ es) ps = (at_of g bytes e ps.0, all_at g bytes es ps.1)
 
-pub take_at : (g : Shape) (n : ℕ) (es : List Event) → AreAt g es → AreAt g (take n es)
-take_at g zero es ps = tt
-take_at g (suc n) [] ps = tt
-take_at g (suc n) (e ∷ es) ps = (ps.0, take_at g n es ps.1)
+pub front_at : (g : Shape) (n : ℕ) (es : List Event) → AreAt g es → AreAt g (take n es)
+front_at g zero es ps = tt
+front_at g (suc n) [] ps = tt
+front_at g (suc n) (e ∷ es) ps = (ps.0, front_at g n es ps.1)
 
 -- an event of another place
 abbrev pub Elsewhere : Shape → ℕ → ℕ → Event → Type 0

@@ -49,6 +49,7 @@ fn are_there(
     choices: &Choices,
 ) -> Result<bool, AllocError>
     requires { ArePlaced geometry.now events.now }
+    ensures some { 0 < zone_sectors geometry.now }
     ensures there { IfOk result (λ b. (bytes : List ℕ) (done : ℕ) (m : Moment) →
         IsMoment geometry.now (events_in bytes events.now) done m →
         IsTrue b ↔ AreThere choices.now.conv.items choices.now.seq.items m) }
@@ -93,6 +94,7 @@ fn numbers(
 ) -> Result<Vec<u64>, StopFault>
     requires placed { ArePlaced geometry.now events.now }
     requires few { done ≤ length events.now }
+    ensures some { 0 < zone_sectors geometry.now }
     ensures count { IfOk result (λ v. length v.items ≡ place_count geometry.now) }
     ensures value { IfOk result (λ v. (bytes : List ℕ) (m : Moment) →
         IsMoment geometry.now (events_in bytes events.now) done m →
@@ -142,7 +144,10 @@ fn stopped_by(
         (moment_cut (store_image first.now) (events_in bytes.now before.now)
         (events_in bytes.now events.now) done)) }
 {
-    let mut numbers = numbers(alloc, &first.geometry(), events, done, choices)?;
+    let mut numbers = match numbers(alloc, &first.geometry(), events, done, choices) {
+        Ok(numbers) => numbers,
+        Err(fault) => return Err(fault),
+    };
     let Ok(mut store) = first.copy(alloc) else {
         return Err(StopFault::Memory);
     };
