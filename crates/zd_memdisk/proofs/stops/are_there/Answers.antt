@@ -12,9 +12,10 @@ returns-then-not-are_sectors_there-clause-there c bytes done m is =
     let counts = c.in_ok-counts.counts.items in
     let test = rw (c.deref.ensures.value, c.deref-2.ensures.value, c.if-not-are_sectors_there.true) at c.are_sectors_there.ensures in
     let counted = c.in_ok-counts.ensures.value bytes in
-    let at = all_at g bytes a.events.now c.requires in
-    (λ t. search rules,
-    λ there. test.1 (sectors_counted g c.tallied.ensures.some (events_in bytes a.events.now) at counts counted done m is a.choices.now.conv.items a.choices.now.seq.items there))
+    let at = all_at g bytes a.events.now c.requires in (
+      λ t. search rules,
+      λ there. test.1 (sectors_counted g c.tallied.ensures.some (events_in bytes a.events.now) at counts counted done m is a.choices.now.conv.items a.choices.now.seq.items there),
+    )
 
 pub returns-clause-there : goal.returns-clause-there
 returns-clause-there c bytes done m is =
@@ -27,9 +28,10 @@ returns-clause-there c bytes done m is =
     let zones = rw (c.deref-3.ensures.value, c.deref-4.ensures.value) at c.are_zones_there.ensures in
     let counted = c.in_ok-counts.ensures.value bytes in
     let at = all_at g bytes a.events.now c.requires in
-    let yes : IsTrue true = search rules in
-    (λ t. all_there g c.tallied.ensures.some (events_in bytes a.events.now) at counts counted done m is conv seq (sectors.0 yes) (zones.0 t),
-    λ there. zones.1 (zones_counted g c.tallied.ensures.some (events_in bytes a.events.now) at counts counted done m is conv seq there))
+    let yes : IsTrue true = search rules in (
+      λ t. all_there g c.tallied.ensures.some (events_in bytes a.events.now) at counts counted done m is conv seq (sectors.0 yes) (zones.0 t),
+      λ there. zones.1 (zones_counted g c.tallied.ensures.some (events_in bytes a.events.now) at counts counted done m is conv seq there),
+    )
 
 pub returns-clause-sectors : goal.returns-clause-sectors
 returns-clause-sectors c there =

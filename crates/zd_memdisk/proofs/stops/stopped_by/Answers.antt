@@ -1,5 +1,5 @@
-use Rattle.std.proofs.Common.{◌≡◌, ℕ, List, length, sym, ◌∙◌, subst, arith}
-use Rattle.zd_base.specs.Geometry.{Shape}
+use Rattle.std.proofs.Common.{◌≡◌, ℕ, ◌<◌, List, length, sym, ◌∙◌, subst, arith}
+use Rattle.zd_base.specs.Geometry.{Shape, zone_sectors}
 use Rattle.zd_model.specs.Image.{Image, IsImage}
 use Rattle.zd_model.specs.Left.{Event, replay}
 use Rattle.zd_memdisk.specs.Alike.{IsAlike}
@@ -54,4 +54,27 @@ returns-clause-there c =
     c.in-Ok.ensures.there a.bytes.now m is
 
 pub returns-clause-ok : goal.returns-clause-ok
-returns-clause-ok c = ?
+returns-clause-ok c =
+    let a = c.args in
+    let g = a.first.now.geometry in
+    let first = store_image a.first.now in
+    let before = events_in a.bytes.now a.before.now in
+    let events = events_in a.bytes.now a.events.now in
+    let m = moment_cut first before events a.done in
+    let cut = cut_moment first before events a.done in
+    let is = subst (λ (s : Shape). IsMoment s events a.done m) (sym c.geometry.ensures) cut in
+    let newest = a.choices.now.newest in
+    let conv = a.choices.now.conv.items in
+    let seq = a.choices.now.seq.items in
+    let numbers = c.in-Ok.numbers.items in
+    let was = store_image c.apply_all.new.self in
+    let now = store_image c.apply_chosen.new.self in
+    let copy = store_image c.in-Ok-copy.store in
+    let numbered = subst (λ (s : Shape). IsNumbered s newest conv seq m numbers) c.geometry.ensures (c.in-Ok.ensures.value a.bytes.now m is) in
+    let some = subst (λ (s : Shape). 0 < zone_sectors s) c.geometry.ensures c.numbers.ensures.some in
+    let alike = alike_trans (replay first before) (replay copy before) was (alike_replay first copy before c.in-Ok-copy.ensures) c.apply_all.ensures.applied in
+    let here : c.apply_all.new.self.geometry ≡ g = c.apply_all.ensures.same ∙ c.in-Ok-copy.ensures.geometry in
+    let applies = subst (λ (s : Shape). Applies s numbers events was now) here
+    (subst (λ (ns : List ℕ). Applies c.apply_all.new.self.geometry ns events was now) c.deref_mut.ensures.value c.apply_chosen.ensures.applied) in
+    chosen_of g some events (all_at g a.bytes.now a.events.now (all_placed g a.bytes.now a.events.now c.requires.events)) a.done m cut
+    newest conv seq numbers numbered (c.in-Ok.ensures.there a.bytes.now m is) was now alike applies (image c.apply_chosen.new.self)
