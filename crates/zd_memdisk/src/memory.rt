@@ -114,7 +114,7 @@ impl MemDisk {
     pub fn stop_image(&self, alloc: Global, k: u64, choices: &Choices) -> Result<MemDisk, StopFault>
         ensures ok { IfOk result (IsStopOf self.now k choices.now) }
         ensures left { IfOk result IsUnused }
-        ensures calls { (disk_calls self.now < k → result ≡ Err StopFault.NoStop) }
+        ensures calls { disk_calls self.now < k → result ≡ Err StopFault.NoStop }
         ensures err { IfErr result (RefusesStop self.now k choices.now) }
     {
         if k > self.calls() {

@@ -18,3 +18,5 @@ mod reads;
 mod refusals;
 #[cfg(test)]
 mod run;
+#[cfg(test)]
+mod stops;
