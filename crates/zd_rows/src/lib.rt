@@ -22,3 +22,5 @@ mod reads;
 mod refusals;
 #[cfg(test)]
 mod run;
+#[cfg(test)]
+mod stops;
