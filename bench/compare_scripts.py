@@ -1,19 +1,20 @@
 #!/usr/bin/env python3
 """Compares zreplay_one with a plain, slow reading of the rules, on random scripts over the fresh volume.
 
-Usage: bench/compare_scripts.py [COUNT [SEED]], after the README's first command, which builds the program.
+Usage: bench/compare_scripts.py [COUNT [SEED]], after ./demo, which builds the programs.
 It stops at the first difference. Scripts lie near the rules: numbers at their bounds, and small slips.
 """
 import random
 import re
 import subprocess
 import sys
+import tempfile
 from collections import Counter
 from pathlib import Path
 
 TOP = Path(__file__).resolve().parent.parent
 PROGRAM = TOP / "crates/zreplay_one/out/zreplay_one"
-IMAGE = TOP / "examples/fresh/fresh.img"
+MAKE = TOP / "examples/fresh/make"
 BLOCKS, CHUNK = 128, 16
 
 NUMBER = rb"(0|[1-9][0-9]*)"
@@ -96,12 +97,19 @@ def line():
 def main():
     count = int(sys.argv[1]) if len(sys.argv) > 1 else 3000
     random.seed(int(sys.argv[2]) if len(sys.argv) > 2 else 1)
+    with tempfile.TemporaryDirectory() as folder:
+        image = Path(folder) / "fresh.img"
+        subprocess.run([MAKE, image], check=True)
+        compare(count, image)
+
+
+def compare(count, image):
     seen = Counter()
     for _ in range(count):
         lines = [line() for _ in range(random.randint(0, 5))]
         end = "\n" if lines and random.random() < 0.95 else ""
         script = ("\n".join(lines) + end).encode()
-        run = subprocess.run([PROGRAM, IMAGE, "-"], input=script, capture_output=True)
+        run = subprocess.run([PROGRAM, image, "-"], input=script, capture_output=True)
         want = wanted(script)
         if (run.stdout.decode(), run.returncode) != want:
             sys.exit(f"script {script!r}\nwanted {want}\ngot {run.stdout!r}, {run.returncode}")

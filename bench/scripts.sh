@@ -2,13 +2,15 @@
 # How long a script takes to be read and parsed: flushes, 250,000 lines and doubled twice. So far such a
 # script ends with `end 11 not-built` once it is parsed, so what is timed is all that there is to do.
 #
-# Usage: bench/scripts.sh, after the README's first command, which builds the program.
+# Usage: bench/scripts.sh, after ./demo, which builds the programs.
 set -eu
 cd "$(dirname "$0")/.."
 program=crates/zreplay_one/out/zreplay_one
-image=examples/fresh/fresh.img
-script=$(mktemp)
-trap 'rm -f "$script"' EXIT
+folder=$(mktemp -d)
+trap 'rm -rf "$folder"' EXIT
+image=$folder/fresh.img
+script=$folder/script
+examples/fresh/make "$image"
 TIMEFORMAT='%U s of user time, %R s in all'
 for lines in 250000 500000 1000000; do
     yes 'f 0' | head -n "$lines" > "$script"

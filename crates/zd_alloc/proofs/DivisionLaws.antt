@@ -1,5 +1,6 @@
 -- Zones of both kinds in one list.
 use Rattle.std.proofs.Common.{◌≡◌, inl, inr, ℕ, Bool, false, ◌+◌, ◌-◌, ◌*◌, ◌<◌, ◌≤◌, List, ◌++◌, length, get_or, set, refl, sym, ap, ap₂, ◌∙◌, arith, length-set, length-append}
+use Rattle.std.specs.List.{range_with_len}
 use Rattle.std.proofs.lemmas.List.{get_or_append_left, get_or-append_right, set-append_left, set-append_right}
 use Rattle.std.proofs.lemmas.Bool.{cases_lt}
 use Rattle.zd_base.specs.Geometry.{Shape}
@@ -14,16 +15,16 @@ use Rattle.zd_alloc.specs.declared.uses.ZoneUse.TheVariants.{Meta, Held}
 at_right : (a b : List ZoneUse) (i : ℕ) → length a ≤ i → use_at (a ++ b) i ≡ use_at b (i - length a)
 at_right a b i past = get_or-append_right a b (length a) i Meta refl past
 
-pub left_least : (a b : List ZoneUse) (z : ℕ) → IsLeastFree a z → z < length a → IsLeastOf Conventional (division a b) z
-left_least a b z first inside = record {
+pub left_least : (a b : List ZoneUse) (order : List ℕ) (z : ℕ) → IsLeastFree a z → z < length a → IsLeastOf Conventional (division a b order) z
+left_least a b order z first inside = record {
   inside = omega (arith, inside, length-append a b);
   of_kind = inside;
   free = get_or_append_left a b Meta z inside ∙ first.free;
   least = λ other low less e. first.least other less (sym (get_or_append_left a b Meta other low) ∙ e);
 }
 
-pub right_least : (a b : List ZoneUse) (z : ℕ) → IsLeastFree b z → z < length b → IsLeastOf Sequential (division a b) (length a + z)
-right_least a b z first inside =
+pub right_least : (a b : List ZoneUse) (order : List ℕ) (z : ℕ) → IsLeastFree b z → z < length b → IsLeastOf Sequential (division a b order) (length a + z)
+right_least a b order z first inside =
     let place : length a + z - length a ≡ z = omega arith in
     record {
       inside = omega (arith, inside, length-append a b);
@@ -38,27 +39,30 @@ left_set a b z u inside = sym (set-append_left a b z u inside)
 pub right_set : (a b : List ZoneUse) (z : ℕ) (u : ZoneUse) → length a ≤ z → a ++ set b (z - length a) u ≡ set (a ++ b) z u
 right_set a b z u past = sym (set-append_right a b (length a) z u refl past)
 
-pub left_takes : (a a' b : List ZoneUse) (z : ℕ) → IsLeastFree a z → z < length a → a' ≡ set a z Held → Takes Conventional (division a b) (division a' b) z
-left_takes a a' b z first inside e = record {
-  least = left_least a b z first inside;
+pub left_takes : (a a' b : List ZoneUse) (order : List ℕ) (z : ℕ) → IsLeastFree a z → z < length a → a' ≡ set a z Held → Takes Conventional (division a b order) (division a' b order) z
+left_takes a a' b order z first inside e = record {
+  least = left_least a b order z first inside;
   zones = ap (λ (x : List ZoneUse). x ++ b) e ∙ left_set a b z Held inside;
   conv = ap length e ∙ length-set a z Held;
+  order = refl;
 }
 
-pub right_takes : (a b b' : List ZoneUse) (z : ℕ) → IsLeastFree b z → z < length b → b' ≡ set b z Held → Takes Sequential (division a b) (division a b') (length a + z)
-right_takes a b b' z first inside e =
+pub right_takes : (a b b' : List ZoneUse) (order : List ℕ) (z : ℕ) → IsLeastFree b z → z < length b → b' ≡ set b z Held → Takes Sequential (division a b order) (division a b' order) (length a + z)
+right_takes a b b' order z first inside e =
     let place : length a + z - length a ≡ z = omega arith in
     record {
-      least = right_least a b z first inside;
+      least = right_least a b order z first inside;
       zones = ap (λ (x : List ZoneUse). a ++ x) (e ∙ ap (λ (i : ℕ). set b i Held) (sym place)) ∙ right_set a b (length a + z) Held (omega arith);
       conv = refl;
+      order = refl;
     }
 
 -- both kinds as they start make the start of all zones
-pub both_start : (g : Shape) (l : Layout) (named : List Bool) (a b : List ZoneUse) (s c q : ℕ) → s ≡ set_zones g l → c ≡ g.conv → q ≡ g.seq → length a ≡ c → length b ≡ q → ((i : ℕ) → i < c → use_at a i ≡ use_at_start (2 * s) (get_or named (0 + i) false) (0 + i)) → ((i : ℕ) → i < q → use_at b i ≡ use_at_start (2 * s) (get_or named (c + i) false) (c + i)) → IsStart g l named (division a b)
-both_start g l named a b s c q first conv seq few more left right = record {
+pub both_start : (g : Shape) (l : Layout) (named : List Bool) (a b : List ZoneUse) (order : List ℕ) (s c q : ℕ) → s ≡ set_zones g l → c ≡ g.conv → q ≡ g.seq → length a ≡ c → length b ≡ q → ((i : ℕ) → i < c → use_at a i ≡ use_at_start (2 * s) (get_or named (0 + i) false) (0 + i)) → ((i : ℕ) → i < q → use_at b i ≡ use_at_start (2 * s) (get_or named (c + i) false) (c + i)) → order ≡ range_with_len 0 l.chunks → IsStart g l named (division a b order)
+both_start g l named a b order s c q first conv seq few more left right chunks = record {
   conv = few ∙ conv;
   count = omega (arith, few, more, conv, seq, length-append a b);
+  order = chunks;
   uses = λ zone inside.
       let begin : 2 * s ≡ first_data_zone g l = ap (λ (x : ℕ). 2 * x) first in
       elim (cases_lt zone c) [

@@ -1,2 +1,4 @@
 pub mod Flags
 pub mod Zones
+pub mod Order
+pub mod Links

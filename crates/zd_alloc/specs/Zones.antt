@@ -1,5 +1,6 @@
 -- The use of zones: what they are used for, and what a take, a release and a commit make of them.
 use Rattle.std.specs.Prelude.{◌≡◌, ◌≢◌, ℕ, ◌*◌, ◌<◌, ◌≤◌, Bool, true, false, cond, List, ◌++◌, length, get_or, set, take, drop, count_by, nat_lt}
+use Rattle.std.specs.List.{range_with_len}
 use Rattle.zd_base.specs.Geometry.{Shape, zone_count}
 use Rattle.zd_base.specs.Layout.{first_data_zone}
 use Rattle.zd_base.specs.declared.geometry.Kind.{Kind}
@@ -50,15 +51,17 @@ pub record IsKept (uses : List ZoneUse) (free limbo : List ℕ) (free_count limb
   pub of_limbo : IsTally is_limbo uses limbo limbo_count
 
 -- the zones of a disk as contracts see them: the number of conventional ones, which come first, and
--- the uses of all
+-- the uses of all; and the use order of all chunks, the one that was written least recently first
 pub record Division : Type 0 where
   pub conv : ℕ
   pub zones : List ZoneUse
+  pub order : List ℕ
 
-abbrev pub division : List ZoneUse → List ZoneUse → Division
-division conventional sequential = record {
+abbrev pub division : List ZoneUse → List ZoneUse → List ℕ → Division
+division conventional sequential order = record {
   conv = length conventional;
   zones = conventional ++ sequential;
+  order = order;
 }
 
 -- a zone is of this kind
@@ -87,14 +90,16 @@ pub record Takes (kind : Kind) (old new : Division) (zone : ℕ) : Type 0 where
   pub least : IsLeastOf kind old zone
   pub zones : new.zones ≡ set old.zones zone Held
   pub conv : new.conv ≡ old.conv
+  pub order : new.order ≡ old.order
 
 -- the use of a zone at the start: metadata below the data zones, held where an entry names it
 abbrev pub use_at_start : ℕ → Bool → ℕ → ZoneUse
 use_at_start first named zone = cond (nat_lt zone first) Meta (cond named Held Free)
 
--- how the zones of a disk start
+-- how the zones of a disk and its chunks start
 pub record IsStart (g : Shape) (l : Layout) (named : List Bool) (d : Division) : Type 0 where
   pub conv : d.conv ≡ g.conv
   pub count : length d.zones ≡ zone_count g
   pub uses : (zone : ℕ) → zone < zone_count g
       → use_at d.zones zone ≡ use_at_start (first_data_zone g l) (get_or named zone false) zone
+  pub order : d.order ≡ range_with_len 0 l.chunks

@@ -1,27 +1,30 @@
-//! The zones of both kinds.
+//! The zones of both kinds, and the use order of chunks.
 
-ghost use Rattle.std.specs.Prelude.{◌≡◌, ◌≢◌, ℕ, ◌+◌, ◌<◌, ◌≤◌, Bool, true, false, length, map, set, get_or, count_by, IfOk, IfSome, IfNone};
+ghost use Rattle.std.specs.Prelude.{◌≡◌, ◌≢◌, ℕ, ◌+◌, ◌<◌, ◌≤◌, Bool, true, false, length, map, set, get_or, count_by, slice_get, IfOk, IfSome, IfNone};
 ghost use Rattle.zd_base.specs.Geometry.{zone_count};
 ghost use Rattle.zd_base.specs.Layout.{Fits};
 ghost use Rattle.zd_base.specs.declared.geometry.Kind.TheVariants.{Conventional, Sequential};
 ghost use Rattle.zd_alloc.specs.Zones.{use_at, is_free, is_limbo, released, after_limbo, uses_of, use_at_start};
 ghost use Rattle.zd_alloc.specs.Zones.{IsLeastOf, HasNoFree, Takes, IsStart};
+ghost use Rattle.zd_alloc.specs.Order.{PutsLast, IsBehind};
 ghost use Rattle.zd_alloc.specs.declared.uses.ZoneUse.TheVariants.{Held};
 
+use crate::order::UseOrder;
 use crate::uses::ZoneUse;
 use crate::zones::Zones;
 use std::alloc::{AllocError, Global};
 use std::marker::Model;
-use zd_base::{Geometry, Kind, Layout, Memory, ZoneNo};
+use zd_base::{ChunkNo, Geometry, Kind, Layout, Memory, ZoneNo};
 
-/// What each zone of a volume is used for.
+/// What each zone of a volume is used for, and in which order chunks were written.
 ///
-/// Contracts see the number of conventional zones and the list of all uses. No call but `new` takes
-/// memory.
+/// Contracts see the number of conventional zones, the list of all uses, and the list of all
+/// chunks, the one that was written least recently first. No call but `new` takes memory.
 #[derive(Drop)]
 pub struct Alloc {
     conventional: Zones,
     sequential: Zones,
+    order: UseOrder,
 }
 
 impl Model for Alloc {
@@ -29,7 +32,7 @@ impl Model for Alloc {
 
     ghost Value = { Division };
 
-    ghost view = { λ a. division a.conventional a.sequential };
+    ghost view = { λ a. division a.conventional a.sequential a.order };
 }
 
 /// Zones `first` to `first + count - 1` of the disk, as they start.
@@ -59,8 +62,9 @@ fn started(
 }
 
 impl Alloc {
-    /// The zones at the start: those of both sets of metadata are laid aside, those that are named
-    /// are held, all others are free. `named` has a flag for each zone.
+    /// The zones at the start: those of both sets of metadata are laid aside, those of the others
+    /// that are named are held, all others are free. `named` has a flag for each zone. The chunks
+    /// stand in the order of their numbers.
     pub fn new(
         alloc: Global,
         g: &Geometry,
@@ -79,9 +83,13 @@ impl Alloc {
         let Ok(sequential) = started(alloc, conv, g.seq(), first_data, named) else {
             return Err(Memory);
         };
+        let Ok(order) = UseOrder::new(alloc, layout.chunks) else {
+            return Err(Memory);
+        };
         Ok(Alloc {
             conventional,
             sequential,
+            order,
         })
     }
 
@@ -157,12 +165,14 @@ impl Alloc {
         }
     }
 
-    /// Gives a held zone back. It goes into limbo where the committed map names it, else it is free.
+    /// Gives a held zone back. It goes into limbo where the committed map names it, else it is
+    /// free.
     pub fn release(&mut self, zone: ZoneNo, named_by_commit: bool)
         requires inside { zone < length self.old.zones }
         requires held { use_at self.old.zones zone ≡ Held }
         ensures zones { self.new.zones ≡ set self.old.zones zone (released named_by_commit) }
         ensures conv { self.new.conv ≡ self.old.conv }
+        ensures order { self.new.order ≡ self.old.order }
     {
         let conv = self.conventional.count();
         if zone.0 < conv {
@@ -176,8 +186,37 @@ impl Alloc {
     pub fn end_limbo(&mut self)
         ensures zones { self.new.zones ≡ map after_limbo self.old.zones }
         ensures conv { self.new.conv ≡ self.old.conv }
+        ensures order { self.new.order ≡ self.old.order }
     {
         self.conventional.end_limbo();
         self.sequential.end_limbo();
+    }
+
+    /// Puts a chunk last in the use order: it was written now.
+    pub fn touch(&mut self, chunk: ChunkNo)
+        requires { chunk < length self.old.order }
+        ensures order { PutsLast chunk self.old.order self.new.order }
+        ensures zones { self.new.zones ≡ self.old.zones }
+        ensures conv { self.new.conv ≡ self.old.conv }
+    {
+        self.order.touch(chunk.0);
+    }
+
+    /// The first chunk in use order.
+    pub fn oldest(&self) -> ChunkNo
+        ensures value { slice_get self.now.order 0 ≡ Some result }
+        ensures inside { result < length self.now.order }
+    {
+        ChunkNo(self.order.oldest())
+    }
+
+    /// The chunk behind this one in use order. None exactly for the last.
+    pub fn after(&self, chunk: ChunkNo) -> Option<ChunkNo>
+        requires { chunk < length self.now.order }
+        ensures value { IsBehind self.now.order chunk result }
+        ensures inside { IfSome result (λ next. next < length self.now.order) }
+    {
+        let next = self.order.after(chunk.0)?;
+        Some(ChunkNo(next))
     }
 }

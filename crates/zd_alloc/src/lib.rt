@@ -3,6 +3,8 @@
 
 mod alloc;
 mod flags;
+mod links;
+mod order;
 mod uses;
 mod words;
 mod zones;

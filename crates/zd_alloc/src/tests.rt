@@ -1,5 +1,9 @@
 //! Takes, releases and the end of limbo, with the answers by hand.
 
+ghost use Rattle.std.specs.Prelude.{◌≡◌, IfOk, length};
+
+mod order;
+
 use super::*;
 use std::alloc::Global;
 use std::test::Fail;
@@ -15,7 +19,9 @@ const SMALL: Layout = Layout {
 };
 
 /// The small disk, of whose zones an entry names 3 and 6.
-fn small(alloc: Global) -> Result<Alloc, Fail> {
+fn small(alloc: Global) -> Result<Alloc, Fail>
+    ensures { IfOk result (λ zones. length zones.order ≡ 8) }
+{
     let mut named = [false; 12];
     named[3] = true;
     named[6] = true;

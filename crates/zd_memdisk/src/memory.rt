@@ -1,6 +1,6 @@
 //! The disk in memory, and its calls.
 
-ghost use Rattle.std.specs.Prelude.{◌≡◌, ◌+◌, ◌-◌, ◌*◌, ◌/◌, ◌<◌, ◌≤◌, ◌^◌, ℕ, length, take, [], Some, None, true, false, ◌&&◌, not, is_ok, IfOk, OnOk, OnErr, IsOk, IsErr};
+ghost use Rattle.std.specs.Prelude.{◌≡◌, ◌+◌, ◌-◌, ◌*◌, ◌/◌, ◌<◌, ◌≤◌, ◌^◌, ℕ, length, take, [], Some, None, true, false, ◌&&◌, not, is_ok, IfOk, IfErr, OnOk, OnErr, IsOk, IsErr};
 ghost use Rattle.zd_base.specs.Faults.{HasCause};
 ghost use Rattle.zd_base.specs.Geometry.{zone_sectors};
 ghost use Rattle.zd_model.specs.Image.{Image, Same, run_of};
@@ -14,9 +14,10 @@ ghost use Rattle.zd_memdisk.specs.Disks.{disk_geometry, disk_image, disk_calls, 
 ghost use Rattle.zd_memdisk.specs.Disks.{spare_calls, spare_sectors, HasRoom, UsesRoom, ObeysList, ObeysRoom, CountsFault, IsSameDisk};
 ghost use Rattle.zd_memdisk.specs.Disks.{front_half, DidWrite, DidReset, Notes, IsNew};
 ghost use Rattle.zd_memdisk.specs.Calls.{write_call, reset_call};
-ghost use Rattle.zd_memdisk.specs.DiskChoices.{ChoicesAreLeft, EachHasChoices};
+ghost use Rattle.zd_memdisk.specs.DiskChoices.{ChoicesAreLeft, EachHasChoices, IsStopOf, IsUnused, RefusesStop};
 ghost use Rattle.zd_memdisk.specs.DiskLaws.{disk_agrees, disk_shaped, disk_leaves, disk_reads};
 
+use crate::choices::{Choices, StopFault};
 use crate::fails::{DeviceCall, Fail, count_call};
 use crate::recorded::RecordedStore;
 use std::alloc::Global;
@@ -99,6 +100,35 @@ impl MemDisk {
         ensures { result ≡ disk_calls self.now }
     {
         self.recorded.calls()
+    }
+
+    /// What a stop leaves when `k` writing calls have returned, those that failed too, and the next may be
+    /// under way: a disk that reads so, and has had no calls.
+    ///
+    /// A conventional sector has the value that the choices name, one that it had at the last flush that
+    /// answered Ok or that was put there since then; a sequential zone is as at that flush after the first
+    /// so many of its events that the choices name. Of several items for one place the last counts.
+    ///
+    /// `NoStop` where fewer than `k` writing calls have returned; else `BadChoice` where an item names what
+    /// isn't there. It takes time in the size of the disk, of its record and of the choices.
+    pub fn stop_image(&self, alloc: Global, k: u64, choices: &Choices) -> Result<MemDisk, StopFault>
+        ensures ok { IfOk result (IsStopOf self.now k choices.now) }
+        ensures left { IfOk result IsUnused }
+        ensures calls { disk_calls self.now < k → result ≡ Err StopFault.NoStop }
+        ensures err { IfErr result (RefusesStop self.now k choices.now) }
+    {
+        if k > self.calls() {
+            return Err(StopFault::NoStop);
+        }
+        let recorded = match self.recorded.stop(alloc, k, choices) {
+            Ok(recorded) => recorded,
+            Err(fault) => return Err(fault),
+        };
+        Ok(MemDisk {
+            recorded,
+            fails: Vec::new(alloc),
+            faults: 0,
+        })
     }
 
     /// What holds of the images that a stop may leave, by choices: what is chosen may be left, and each

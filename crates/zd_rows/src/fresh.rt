@@ -4,6 +4,7 @@ ghost use Rattle.std.specs.Prelude.{◌+◌, ◌<◌, ◌≤◌, length};
 
 use std::process::Abort;
 use std::test::Fail;
+use uuid::Uuid;
 use zd_base::{Geometry, Kind, Layout, SECTOR, ZoneNo};
 use zd_disk::{Failed, ZonedDisk};
 use zd_memdisk::MemDisk;
@@ -136,7 +137,9 @@ pub fn format<D: ZonedDisk>(rt: &impl Abort, disk: &mut D, layout: &Layout) -> R
 /// The volume of the rows, which nobody wrote.
 pub fn fresh(rt: &(impl Abort + AllocGlobal)) -> Result<MemDisk, Fail> {
     let mut disk = MemDisk::blank(rt.alloc(), Geometry::new(16, 6, 6)?)?;
-    format(rt, &mut disk, &SMALL)?;
+    let volume = Uuid::from_bytes(VOLUME);
+    let layout = zd_format::format(rt.alloc(), &mut disk, 2, [0; 32], volume)?;
+    assert_eq!(rt; layout, SMALL);
     Ok(disk)
 }
 

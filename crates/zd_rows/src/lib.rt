@@ -1,4 +1,5 @@
-//! Whole runs over small volumes: what they print, and the status that they end with.
+//! Whole runs over small volumes: what they print, and the status that they end with; and what crates
+//! make of whole disks: sets of metadata, openings, stops.
 //!
 //! Tests alone stand here, above all the crates that they run through. In their texts `;` is the line
 //! feed byte.
@@ -9,11 +10,15 @@ mod data;
 #[cfg(test)]
 mod failures;
 #[cfg(test)]
+mod formatting;
+#[cfg(test)]
 mod fresh;
 #[cfg(test)]
 mod image_file;
 #[cfg(test)]
 mod large;
+#[cfg(test)]
+mod opening;
 #[cfg(test)]
 mod reads;
 #[cfg(test)]
@@ -22,3 +27,5 @@ mod refusals;
 mod run;
 #[cfg(test)]
 mod sets;
+#[cfg(test)]
+mod stops;

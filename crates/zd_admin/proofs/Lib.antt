@@ -1,0 +1,3 @@
+pub mod SinkLaws
+pub mod WordLaws
+pub mod RunLaws

@@ -1,0 +1,31 @@
+-- Which words are a command.
+use Rattle.std.specs.Prelude.{◌≡◌, ℕ, ◌≤◌, ◌==◌, Bool, false, Option, Some, None}
+use Rattle.std.specs.Prelude.{List, [], ◌∷◌, codes, slice_get}
+use Rattle.uuid.specs.Text.{parsed}
+use Rattle.zd_model.specs.Text.{numeral}
+
+-- it begins with a minus, and isn't a minus alone
+abbrev pub is_option : List ℕ → Bool
+is_option [] = false
+is_option (first ∷ []) = false
+is_option (first ∷ second ∷ rest) = first == 45
+
+-- `--format --seq R --uuid U IMAGE`: the words ask to format an image with so many reserved zones,
+-- and with this identifier of the volume
+pub record AsksFormat (words : List (List ℕ)) (reserved : ℕ) (volume : List ℕ) : Type 0 where
+  pub id : List ℕ
+  pub image : List ℕ
+  pub spelled : words ≡ codes "--format"
+      ∷ codes "--seq" ∷ numeral reserved ∷ codes "--uuid" ∷ id ∷ image ∷ []
+  pub most : reserved ≤ 65536
+  pub identifier : parsed id ≡ Some volume
+  pub path : is_option image ≡ false
+
+-- the words are a command
+abbrev pub IsCommand : List (List ℕ) → Type 0
+IsCommand words = (reserved : ℕ) × (volume : List ℕ) × AsksFormat words reserved volume
+
+-- the word of a command that stands for the image; none where the words are no command
+abbrev pub NamesImage : List (List ℕ) → Option (List ℕ) → Type 0
+NamesImage words None = IsCommand words → ⊥
+NamesImage words (Some image) = IsCommand words × (slice_get words 5 ≡ Some image)

@@ -1,0 +1,97 @@
+//! A run, from words to the last line.
+
+ghost use Rattle.std.specs.Prelude.{◌≡◌, ◌↔◌, ◌≤◌, map, string_bytes};
+ghost use Rattle.zd_base.specs.Faults.{Rose};
+ghost use Rattle.zd_disk.specs.Told.{WhereTold};
+ghost use Rattle.zd_format.specs.Fresh.{EachLeft};
+ghost use Rattle.zd_admin.specs.Words.{IsCommand};
+ghost use Rattle.zd_admin.specs.Output.{IsDone, IsFaultless, IsTaken};
+ghost use Rattle.zd_admin.specs.Admin.{Ends, EndsWell, IsDoneStatus, IsFreshBy, IsStatus, IsUnfitBy};
+ghost use Rattle.zd_admin.specs.Admin.{Reports, WasMade, no_label};
+
+use crate::outcome::Outcome;
+use crate::report::{tell, tell_line};
+use crate::words::{Asked, command};
+use std::alloc::Global;
+use zd_base::Status;
+use zd_disk::ZonedDisk;
+use zd_format::{FormatFault, format_disk};
+use zd_ports::Sink;
+
+/// The label of a volume that gets none.
+const NO_LABEL: [u8; 32] = [0; 32];
+
+/// Formats a disk as it was asked.
+#[tactic(auto, unfolding(crate::specs::Admin::no_label))]
+fn run<D: ZonedDisk>(alloc: Global, disk: &mut D, asked: Asked) -> Outcome
+    ensures ended { Ends asked.reserved (D.told disk.new) result }
+    ensures reads { IsDone result →
+        WhereTold (D.zones disk.new) (WasMade asked.reserved asked.volume) }
+    ensures same { result ≡ Outcome.Unfit →
+        (D.zones disk.new ≡ D.zones disk.old) × (D.calls disk.new ≡ D.calls disk.old) }
+    ensures durable { IsDone result →
+        EachLeft (D.zones disk.new) (D.calls disk.new) (D.left disk.new)
+        (WasMade asked.reserved asked.volume) }
+    ensures device { result ≡ Outcome.Device → Rose (D.faults disk.old) (D.faults disk.new) }
+    ensures later { D.faults disk.old ≤ D.faults disk.new }
+{
+    match format_disk(alloc, disk, asked.reserved, NO_LABEL, asked.volume) {
+        Ok(made) => Outcome::Formatted {
+            chunks: made.layout.chunks,
+            zone_blocks: made.geometry.zone_blocks(),
+        },
+        Err(FormatFault::Unfit) => Outcome::Unfit,
+        Err(FormatFault::Device) => Outcome::Device,
+        Err(FormatFault::Memory) => Outcome::Memory,
+    }
+}
+
+/// Does what the words ask for on a disk, and tells how it ended. It hands the disk back.
+///
+/// So far the one command is `--format --seq R --uuid U IMAGE`: the disk becomes a volume of zeros
+/// with R reserved zones, no label, and the identifier U. The status is 0 where that was done, 1 where
+/// the words are no command, 4 where the disk failed, 6 where the sink failed and nothing else was
+/// wrong, 7 where no memory was found, and 10 where the disk has no room for such a volume.
+pub fn admin<D: ZonedDisk, K: Sink>(
+    alloc: Global,
+    words: &[String],
+    mut disk: D,
+    out: &mut K,
+) -> (Status, D)
+    ensures usage { (result.0.0 ≡ 1) ↔ (IsCommand (map string_bytes words.now) → ⊥) }
+    ensures statuses { IsStatus result.0.0 }
+
+    // What is told of a run: its outcome with its cause, in the sink.
+    ensures report { WhereTold (K.held out.old) (λ before.
+        Reports (map string_bytes words.now) (D.told result.1) result.0.0 before (K.held out.new)
+        (IsTaken result.0.0 (K.faults out.old) (K.faults out.new))) }
+
+    // Where all was done, the disk is the volume for which the words ask, also after a stop.
+    ensures reads { IsDoneStatus result.0.0 →
+        WhereTold (D.zones result.1) (IsFreshBy (map string_bytes words.now)) }
+    ensures durable { IsDoneStatus result.0.0 →
+        EachLeft (D.zones result.1) (D.calls result.1) (D.left result.1)
+        (IsFreshBy (map string_bytes words.now)) }
+
+    ensures device { result.0.0 ≡ 4 → Rose (D.faults disk) (D.faults result.1) }
+    ensures sink { result.0.0 ≡ 6 → Rose (K.faults out.old) (K.faults out.new) }
+
+    // Where the disk has no room, nothing was written. Where the words are no command, it is the very
+    // value.
+    ensures unfit { result.0.0 ≡ 10 → IsUnfitBy (map string_bytes words.now) (D.told result.1)
+        × (D.zones result.1 ≡ D.zones disk) × (D.calls result.1 ≡ D.calls disk) }
+    ensures same { result.0.0 ≡ 1 → result.1 ≡ disk }
+
+    // Where nothing is wrong and nothing fails, room decides, unless no memory is found.
+    ensures complete { IsCommand (map string_bytes words.now) →
+        IsFaultless (D.faults disk) (D.faults result.1) →
+        IsFaultless (K.faults out.old) (K.faults out.new) →
+        EndsWell (map string_bytes words.now) (D.told result.1) result.0.0 }
+{
+    let Some(asked) = command(words) else {
+        return (tell_line(out, Outcome::Usage), disk);
+    };
+    let outcome = run(alloc, &mut disk, asked);
+    let status = tell(alloc, out, outcome);
+    (status, disk)
+}

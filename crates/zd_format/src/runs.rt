@@ -1,0 +1,60 @@
+//! Runs of blocks of a set, each written by one call of the disk.
+
+ghost use Rattle.std.specs.Prelude.{◌≡◌, ◌+◌, ◌*◌, ◌/◌, ◌%◌, ◌<◌, ◌≤◌, Some, OnOk, IfOk, length};
+ghost use Rattle.zd_base.specs.Faults.{HasCause};
+ghost use Rattle.zd_disk.specs.Told.{Both};
+ghost use Rattle.zd_format.specs.Sets.{PutBlocks, blocks_in, zero_blocks};
+
+use std::alloc::{AllocError, Global};
+use zd_base::{BLOCK, Failed, Geometry, ZoneNo};
+use zd_disk::ZonedDisk;
+
+/// The most blocks that a call writes.
+const MOST: u32 = 32;
+
+/// As many blocks of zeros as a call writes at most.
+#[tactic(auto, unfolding(crate::specs::Sets::zero_blocks))]
+pub fn zero_run(alloc: Global) -> Result<Vec<u8>, AllocError>
+    ensures { IfOk result (λ zeros. zeros.items ≡ zero_blocks 32) }
+{
+    vec![in alloc; 0u8; BLOCK * MOST as usize]
+}
+
+/// How many blocks the next call writes: as many as are left and as the zone takes, at most 32.
+pub fn run_length(geometry: &Geometry, block: u32, end: u32) -> u32
+    requires { block < end }
+    ensures some { 0 < result }
+    ensures most { result ≤ 32 }
+    ensures end { block + result ≤ end }
+    ensures within { block % geometry.now.zone_blocks + result ≤ geometry.now.zone_blocks }
+{
+    let zone_blocks = geometry.zone_blocks();
+    let left = zone_blocks - block % zone_blocks;
+    (end - block).min(left).min(MOST)
+}
+
+/// Writes blocks of the set that begins in zone `first`, from this one on, all in one conventional
+/// zone.
+pub fn write_run<D: ZonedDisk>(
+    disk: &mut D,
+    geometry: &Geometry,
+    first: u32,
+    block: u32,
+    bytes: &[u8],
+) -> Result<(), Failed>
+    requires told { D.told disk.old ≡ Some geometry.now }
+    requires whole { length bytes.now ≡ 4096 * blocks_in bytes.now }
+    requires some { 0 < blocks_in bytes.now }
+    requires zone { first + block / geometry.now.zone_blocks < geometry.now.conv }
+    requires within { block % geometry.now.zone_blocks + blocks_in bytes.now
+        ≤ geometry.now.zone_blocks }
+    ensures ok { OnOk result (Both (D.zones disk.old) (D.zones disk.new)
+        (PutBlocks first block bytes.now)) }
+    ensures told { D.told disk.new ≡ D.told disk.old }
+    ensures cause { HasCause (D.faults disk.old) (D.faults disk.new) result }
+{
+    let zone_blocks = geometry.zone_blocks();
+    let _conv = geometry.conv();
+    let zone = ZoneNo(first + block / zone_blocks);
+    disk.write(zone, 8 * (block % zone_blocks), bytes)
+}
