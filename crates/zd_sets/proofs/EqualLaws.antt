@@ -194,7 +194,7 @@ good_at image zone s is sizes own =
     ∙ ap (λ (b : Bool). cond b (Some s) None) (eq-eqb s.own (zone * image.geometry.zone_blocks) own)
 
 -- the place of the first block of a set
-at_front : (g : Shape) (zone z k : ℕ) → (z ≡ zone) × (k ≡ 0) → InSet g zone 0 1 z k
+pub at_front : (g : Shape) (zone z k : ℕ) → (z ≡ zone) × (k ≡ 0) → InSet g zone 0 1 z k
 at_front g zone z k p =
     let none = zero-div g.zone_blocks in
     (0, omega arith, omega arith, omega (arith, p.0, none), p.1 ∙ sym (zero-mod g.zone_blocks))

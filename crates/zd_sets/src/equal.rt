@@ -7,7 +7,7 @@ ghost use Rattle.zd_disk.specs.Told.{Both, WhereTold};
 ghost use Rattle.zd_model.specs.Super.{HasSizes};
 ghost use Rattle.zd_sets.specs.Blocks.{AreBlocks};
 ghost use Rattle.zd_sets.specs.Choice.{IsChoice, IsPlaced};
-ghost use Rattle.zd_sets.specs.Equal.{EachLeft, HasBlock, HasBlocks, HasSuper, IsCleared, IsDurable, IsMadeEqual, IsReady, head_at};
+ghost use Rattle.zd_sets.specs.Equal.{EachLeft, HasBlock, HasBlocks, HasSuper, InSet, IsCleared, IsDurable, IsMadeEqual, IsReady, StopsLeaveOnly, head_at};
 
 use crate::read::read_set_block;
 use crate::{Chosen, SetBlocks, write_block, write_super};
@@ -29,6 +29,9 @@ fn copy_block<D: ZonedDisk>(
     ensures ok { OnOk result (Both (D.zones disk.old) (D.zones disk.new)
         (HasBlock geometry.now first i block.now)) }
     ensures told { D.told disk.new ≡ D.told disk.old }
+    ensures calls { D.calls disk.old ≤ D.calls disk.new }
+    ensures left { StopsLeaveOnly (InSet geometry.now first i (i + 1))
+        (D.zones disk.old) (D.calls disk.old) (D.left disk.old) (D.calls disk.new) (D.left disk.new) }
     ensures cause { HasCause (D.faults disk.old) (D.faults disk.new) result }
 {
     let _zone_blocks = geometry.zone_blocks();
@@ -56,6 +59,9 @@ fn copy_blocks<D: ZonedDisk>(
     ensures ok { OnOk result (Both (D.zones disk.old) (D.zones disk.new)
         (HasBlocks geometry.now first 1 end blocks.now)) }
     ensures told { D.told disk.new ≡ D.told disk.old }
+    ensures calls { D.calls disk.old ≤ D.calls disk.new }
+    ensures left { StopsLeaveOnly (InSet geometry.now first 1 end)
+        (D.zones disk.old) (D.calls disk.old) (D.left disk.old) (D.calls disk.new) (D.left disk.new) }
     ensures durable { OnOk result (IsDurable (D.zones disk.new) (D.calls disk.new) (D.left disk.new)) }
     ensures cause { HasCause (D.faults disk.old) (D.faults disk.new) result }
 {
@@ -79,6 +85,9 @@ fn clear_bad<D: ZonedDisk>(
     ensures ok { OnOk result (Both (D.zones disk.old) (D.zones disk.new)
         (IsCleared geometry.now zone good)) }
     ensures told { D.told disk.new ≡ D.told disk.old }
+    ensures calls { D.calls disk.old ≤ D.calls disk.new }
+    ensures left { StopsLeaveOnly (InSet geometry.now zone 0 1)
+        (D.zones disk.old) (D.calls disk.old) (D.left disk.old) (D.calls disk.new) (D.left disk.new) }
     ensures cause { HasCause (D.faults disk.old) (D.faults disk.new) result }
 {
     let _zone_blocks = geometry.zone_blocks();
@@ -110,6 +119,9 @@ fn put_super<D: ZonedDisk>(disk: &mut D, geometry: &Geometry, chosen: &Chosen) -
     ensures ok { OnOk result (Both (D.zones disk.old) (D.zones disk.new)
         (HasSuper geometry.now chosen.now.other chosen.now.head)) }
     ensures told { D.told disk.new ≡ D.told disk.old }
+    ensures calls { D.calls disk.old ≤ D.calls disk.new }
+    ensures left { StopsLeaveOnly (InSet geometry.now chosen.now.other 0 1)
+        (D.zones disk.old) (D.calls disk.old) (D.left disk.old) (D.calls disk.new) (D.left disk.new) }
     ensures durable { OnOk result (IsDurable (D.zones disk.new) (D.calls disk.new) (D.left disk.new)) }
     ensures cause { HasCause (D.faults disk.old) (D.faults disk.new) result }
 {
@@ -125,7 +137,8 @@ fn put_super<D: ZonedDisk>(disk: &mut D, geometry: &Geometry, chosen: &Chosen) -
 /// differ are written, and last the super block, with the chosen fields and its own number; each of
 /// the three parts ends with a flush.
 ///
-/// After Ok a stop leaves what the disk reads as.
+/// After Ok a stop leaves what the disk reads as. Before, and at any answer, a stop leaves the disk
+/// changed in used blocks of the other set alone.
 pub fn make_equal<D: ZonedDisk>(
     disk: &mut D,
     geometry: &Geometry,
@@ -141,6 +154,9 @@ pub fn make_equal<D: ZonedDisk>(
     ensures ok { OnOk result (Both (D.zones disk.old) (D.zones disk.new)
         (IsMadeEqual geometry.now chosen.now (used_blocks geometry.now chosen.now.head.layout))) }
     ensures told { D.told disk.new ≡ D.told disk.old }
+    ensures calls { D.calls disk.old ≤ D.calls disk.new }
+    ensures left { StopsLeaveOnly (InSet geometry.now chosen.now.other 0 (used_blocks geometry.now chosen.now.head.layout))
+        (D.zones disk.old) (D.calls disk.old) (D.left disk.old) (D.calls disk.new) (D.left disk.new) }
     ensures durable { OnOk result (IsDurable (D.zones disk.new) (D.calls disk.new) (D.left disk.new)) }
     ensures cause { HasCause (D.faults disk.old) (D.faults disk.new) result }
 {

@@ -1,10 +1,12 @@
-use Rattle.std.proofs.Common.{◌≡◌, ◌≤◌, replicate, sym, ap, ◌∙◌, arith}
+use Rattle.std.proofs.Common.{ℕ, ◌≡◌, ◌≤◌, replicate, sym, ap, ◌∙◌, arith}
+use Rattle.std.proofs.lemmas.List.{length-replicate}
 use Rattle.zd_base.specs.Geometry.{Shape}
 use Rattle.zd_model.specs.Image.{Image, Same}
 use Rattle.zd_disk.proofs.ToldLaws.{IfSome-each, Some-same}
 use Rattle.zd_disk.specs.Steps.{Wrote}
-use Rattle.zd_sets.specs.Equal.{IsCleared}
-use Rattle.zd_sets.proofs.EqualLaws.{Both-then, cleared, ok_anyway}
+use Rattle.zd_sets.specs.Equal.{InSet, IsCleared}
+use Rattle.zd_sets.proofs.EqualLaws.{Both-then, at_front, cleared, ok_anyway}
+use Rattle.zd_sets.proofs.StopLaws.{stops_flush, stops_more, stops_then, stops_write}
 use Rattle.zd_sets.proofs.equal.clear_bad.Goals as goal
 
 pub write-requires-clause-pointer : goal.write-requires-clause-pointer
@@ -22,3 +24,33 @@ returns-clause-ok g c =
     let told = Some-same _ _ (sym (d.agrees c.args.disk.now old e) ∙ c.requires.told) in
     cleared c.args.geometry.now c.args.zone c.args.good old middle new told (d.shaped c.args.disk.now old e) (d.shaped c.write.new.self middle m) c.requires.zone (omega arith) c.if-good.false wrote same)
     c.in_ok-write.ensures.ok c.flush.ensures.zones)
+
+pub returns-in_err-write-clause-left : goal.returns-in_err-write-clause-left
+returns-in_err-write-clause-left g c =
+    let d = g.met.D.ZonedDisk in
+    let some = c.zone_blocks-zone_blocks.ensures.shape.size.least in
+    let shape = c.args.geometry.now in
+    stops_more (λ z k. (z ≡ c.args.zone) × (k ≡ 0)) (InSet shape c.args.zone 0 1) (g.D.ZonedDisk.zones c.args.disk.now) (g.D.ZonedDisk.calls c.args.disk.now) (g.D.ZonedDisk.calls c.write.new.self) (g.D.ZonedDisk.left c.args.disk.now) (g.D.ZonedDisk.left c.write.new.self)
+    (at_front shape c.args.zone)
+    (stops_write shape c.args.zone 0 1 (replicate 512 0) (g.D.ZonedDisk.zones c.args.disk.now) (g.D.ZonedDisk.zones c.write.new.self) (g.D.ZonedDisk.calls c.args.disk.now) (g.D.ZonedDisk.calls c.write.new.self) (g.D.ZonedDisk.left c.args.disk.now) (g.D.ZonedDisk.left c.write.new.self)
+    c.requires.zone (omega arith) (length-replicate {A = ℕ} 512 0) (omega arith) c.write.ensures.calls
+    (λ image can. (d.leaves c.args.disk.now (g.D.ZonedDisk.calls c.args.disk.now) image (omega arith) can).0)
+    (λ image can. Some-same _ _ (sym (d.leaves c.args.disk.now (g.D.ZonedDisk.calls c.args.disk.now) image (omega arith) can).1 ∙ c.requires.told))
+    c.write.ensures.left)
+
+pub returns-clause-left : goal.returns-clause-left
+returns-clause-left g c =
+    let d = g.met.D.ZonedDisk in
+    let some = c.zone_blocks-zone_blocks.ensures.shape.size.least in
+    let shape = c.args.geometry.now in
+    stops_then (InSet shape c.args.zone 0 1) (Wrote c.args.zone 0 (replicate 512 0)) (g.D.ZonedDisk.zones c.args.disk.now) (g.D.ZonedDisk.zones c.write.new.self) (g.D.ZonedDisk.calls c.args.disk.now) (g.D.ZonedDisk.calls c.write.new.self) (g.D.ZonedDisk.calls c.flush.new.self) (g.D.ZonedDisk.left c.args.disk.now) (g.D.ZonedDisk.left c.write.new.self) (g.D.ZonedDisk.left c.flush.new.self)
+    (omega (arith, c.write.ensures.calls)) (omega (arith, c.flush.ensures.calls)) c.in_ok-write.ensures.ok
+    (stops_more (λ z k. (z ≡ c.args.zone) × (k ≡ 0)) (InSet shape c.args.zone 0 1) (g.D.ZonedDisk.zones c.args.disk.now) (g.D.ZonedDisk.calls c.args.disk.now) (g.D.ZonedDisk.calls c.write.new.self) (g.D.ZonedDisk.left c.args.disk.now) (g.D.ZonedDisk.left c.write.new.self)
+    (at_front shape c.args.zone)
+    (stops_write shape c.args.zone 0 1 (replicate 512 0) (g.D.ZonedDisk.zones c.args.disk.now) (g.D.ZonedDisk.zones c.write.new.self) (g.D.ZonedDisk.calls c.args.disk.now) (g.D.ZonedDisk.calls c.write.new.self) (g.D.ZonedDisk.left c.args.disk.now) (g.D.ZonedDisk.left c.write.new.self)
+    c.requires.zone (omega arith) (length-replicate {A = ℕ} 512 0) (omega arith) c.write.ensures.calls
+    (λ image can. (d.leaves c.args.disk.now (g.D.ZonedDisk.calls c.args.disk.now) image (omega arith) can).0)
+    (λ image can. Some-same _ _ (sym (d.leaves c.args.disk.now (g.D.ZonedDisk.calls c.args.disk.now) image (omega arith) can).1 ∙ c.requires.told))
+    c.write.ensures.left))
+    (stops_flush (InSet shape c.args.zone 0 1) (g.D.ZonedDisk.zones c.write.new.self) (g.D.ZonedDisk.calls c.write.new.self) (g.D.ZonedDisk.calls c.flush.new.self) (g.D.ZonedDisk.left c.write.new.self) (g.D.ZonedDisk.left c.flush.new.self) c.flush.ensures.calls
+    (λ image can. (d.leaves c.write.new.self (g.D.ZonedDisk.calls c.write.new.self) image (omega arith) can).0) c.flush.ensures.left)

@@ -1,10 +1,11 @@
-use Rattle.std.proofs.Common.{Option, OnOk, sym, ◌∙◌, subst, arith}
+use Rattle.std.proofs.Common.{◌≡◌, ◌+◌, ◌/◌, ◌%◌, Option, OnOk, sym, ◌∙◌, subst, arith}
 use Rattle.std.proofs.lemmas.Result.{on_ok_weaker}
 use Rattle.zd_model.specs.Image.{Image}
 use Rattle.zd_disk.proofs.ToldLaws.{Some-same}
 use Rattle.zd_disk.specs.Told.{Both}
-use Rattle.zd_sets.specs.Equal.{HasBlock}
+use Rattle.zd_sets.specs.Equal.{HasBlock, InSet}
 use Rattle.zd_sets.proofs.EqualLaws.{wrote_has}
+use Rattle.zd_sets.proofs.StopLaws.{stops_after_read, stops_more, stops_write}
 use Rattle.zd_sets.proofs.WriteLaws.{Both-more}
 use Rattle.zd_sets.proofs.equal.copy_block.Goals as goal
 
@@ -19,3 +20,24 @@ returns-clause-ok g c =
     let same = Some-same _ _ (sym (d.agrees c.read_set_block.new.disk old e) ∙ read.told ∙ c.requires.told) in
     wrote_has c.args.geometry.now c.args.first c.args.i c.args.block.now old new same (d.shaped c.read_set_block.new.disk old e) (omega arith) c.requires.inside c.requires.size w))
     c.write_block.ensures.ok)
+
+pub returns-clause-left : goal.returns-clause-left
+returns-clause-left g c =
+    let d = g.met.D.ZonedDisk in
+    let read = c.in_ok-read_set_block.ensures in
+    let size = c.zone_blocks-zone_blocks.ensures.shape.size.least in
+    let shape = c.args.geometry.now in
+    let first = c.args.first in
+    let i = c.args.i in
+    let block = c.args.block.now in
+    let middle = c.read_set_block.new.disk in
+    let new = c.write_block.new.disk in
+    stops_after_read (InSet shape first i (i + 1)) (g.D.ZonedDisk.zones c.args.disk.now) (g.D.ZonedDisk.zones middle) (g.D.ZonedDisk.calls c.args.disk.now) (g.D.ZonedDisk.calls middle) (g.D.ZonedDisk.calls new) (g.D.ZonedDisk.left c.args.disk.now) (g.D.ZonedDisk.left middle) (g.D.ZonedDisk.left new)
+    read.zones read.calls (omega (arith, c.write_block.ensures.calls)) read.left
+    (stops_more (λ z k. (z ≡ first + i / shape.zone_blocks) × (k ≡ i % shape.zone_blocks)) (InSet shape first i (i + 1)) (g.D.ZonedDisk.zones middle) (g.D.ZonedDisk.calls middle) (g.D.ZonedDisk.calls new) (g.D.ZonedDisk.left middle) (g.D.ZonedDisk.left new)
+    (λ z k p. (i, omega arith, omega arith, p.0, p.1))
+    (stops_write shape (first + i / shape.zone_blocks) (i % shape.zone_blocks) 8 block (g.D.ZonedDisk.zones middle) (g.D.ZonedDisk.zones new) (g.D.ZonedDisk.calls middle) (g.D.ZonedDisk.calls new) (g.D.ZonedDisk.left middle) (g.D.ZonedDisk.left new)
+    c.requires.inside (omega arith) c.requires.size (omega arith) c.write_block.ensures.calls
+    (λ image can. (d.leaves middle (g.D.ZonedDisk.calls middle) image (omega arith) can).0)
+    (λ image can. Some-same _ _ (sym (d.leaves middle (g.D.ZonedDisk.calls middle) image (omega arith) can).1 ∙ read.told ∙ c.requires.told))
+    c.write_block.ensures.left))

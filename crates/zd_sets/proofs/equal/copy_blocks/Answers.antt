@@ -2,8 +2,9 @@ use Rattle.std.proofs.Common.{◌≡◌, ◌+◌, List, ℕ, sym, ◌∙◌, sub
 use Rattle.zd_model.specs.Image.{Same}
 use Rattle.zd_disk.proofs.ToldLaws.{Some-same}
 use Rattle.zd_disk.specs.Told.{Both}
-use Rattle.zd_sets.specs.Equal.{HasBlock, HasBlocks}
+use Rattle.zd_sets.specs.Equal.{HasBlock, HasBlocks, InSet}
 use Rattle.zd_sets.proofs.EqualLaws.{Both-then, blocks_stay, copied_more, ok_anyway}
+use Rattle.zd_sets.proofs.StopLaws.{stops_flush, stops_more, stops_then}
 use Rattle.zd_sets.proofs.equal.copy_blocks.Goals as goal
 
 pub loop-i-preserved : goal.loop-i-preserved
@@ -15,6 +16,11 @@ loop-i-preserved g c =
     record {
       told = c.in_ok-copy_block.ensures.told ∙ c.loop-i.invariant.told;
       later = omega (arith, c.in_ok-copy_block.ensures.cause.later, c.loop-i.invariant.later);
+      more = omega (arith, c.loop-i.invariant.more, c.copy_block.ensures.calls);
+      left = stops_then (InSet shape c.args.first 1 c.args.end) (HasBlocks shape c.args.first 1 c.loop-i.i c.args.blocks.now) (g.D.ZonedDisk.zones c.args.disk.now) (g.D.ZonedDisk.zones c.loop-i.disk) (g.D.ZonedDisk.calls c.args.disk.now) (g.D.ZonedDisk.calls c.loop-i.disk) (g.D.ZonedDisk.calls c.copy_block.new.disk) (g.D.ZonedDisk.left c.args.disk.now) (g.D.ZonedDisk.left c.loop-i.disk) (g.D.ZonedDisk.left c.copy_block.new.disk)
+          c.loop-i.invariant.more c.copy_block.ensures.calls c.loop-i.invariant.copied c.loop-i.invariant.left
+          (stops_more (InSet shape c.args.first c.loop-i.i (c.loop-i.i + 1)) (InSet shape c.args.first 1 c.args.end) (g.D.ZonedDisk.zones c.loop-i.disk) (g.D.ZonedDisk.calls c.loop-i.disk) (g.D.ZonedDisk.calls c.copy_block.new.disk) (g.D.ZonedDisk.left c.loop-i.disk) (g.D.ZonedDisk.left c.copy_block.new.disk)
+          (λ z x p. (p.0, omega (arith, p.1), omega (arith, p.2), p.3, p.4)) c.copy_block.ensures.left);
       copied = Both-then _ _ _ (HasBlocks shape c.args.first 1 c.loop-i.i blocks) (HasBlock shape c.args.first c.loop-i.i c.block.result.now) (HasBlocks shape c.args.first 1 (c.loop-i.i + 1) blocks)
           (λ old middle new e m before here.
           let same = Some-same _ _ (sym (d.agrees c.args.disk.now old e) ∙ c.requires.told) in
@@ -37,3 +43,20 @@ returns-clause-ok g c =
     let told = Some-same _ _ (sym (d.agrees c.args.disk.now old e) ∙ c.requires.told) in
     blocks_stay shape c.args.first (omega arith) old middle new told (d.shaped c.loop-i.disk middle m) same 1 c.args.end blocks c.requires.inside before)
     last c.flush.ensures.zones)
+
+pub returns-in_err-copy_block-clause-left : goal.returns-in_err-copy_block-clause-left
+returns-in_err-copy_block-clause-left g c =
+    let shape = c.args.geometry.now in
+    stops_then (InSet shape c.args.first 1 c.args.end) (HasBlocks shape c.args.first 1 c.loop-i.i c.args.blocks.now) (g.D.ZonedDisk.zones c.args.disk.now) (g.D.ZonedDisk.zones c.loop-i.disk) (g.D.ZonedDisk.calls c.args.disk.now) (g.D.ZonedDisk.calls c.loop-i.disk) (g.D.ZonedDisk.calls c.copy_block.new.disk) (g.D.ZonedDisk.left c.args.disk.now) (g.D.ZonedDisk.left c.loop-i.disk) (g.D.ZonedDisk.left c.copy_block.new.disk)
+    c.loop-i.invariant.more c.copy_block.ensures.calls c.loop-i.invariant.copied c.loop-i.invariant.left
+    (stops_more (InSet shape c.args.first c.loop-i.i (c.loop-i.i + 1)) (InSet shape c.args.first 1 c.args.end) (g.D.ZonedDisk.zones c.loop-i.disk) (g.D.ZonedDisk.calls c.loop-i.disk) (g.D.ZonedDisk.calls c.copy_block.new.disk) (g.D.ZonedDisk.left c.loop-i.disk) (g.D.ZonedDisk.left c.copy_block.new.disk)
+    (λ z x p. (p.0, omega (arith, p.1), omega (arith, p.2), p.3, p.4)) c.copy_block.ensures.left)
+
+pub returns-clause-left : goal.returns-clause-left
+returns-clause-left g c =
+    let d = g.met.D.ZonedDisk in
+    let shape = c.args.geometry.now in
+    stops_then (InSet shape c.args.first 1 c.args.end) (HasBlocks shape c.args.first 1 c.loop-i.i c.args.blocks.now) (g.D.ZonedDisk.zones c.args.disk.now) (g.D.ZonedDisk.zones c.loop-i.disk) (g.D.ZonedDisk.calls c.args.disk.now) (g.D.ZonedDisk.calls c.loop-i.disk) (g.D.ZonedDisk.calls c.flush.new.self) (g.D.ZonedDisk.left c.args.disk.now) (g.D.ZonedDisk.left c.loop-i.disk) (g.D.ZonedDisk.left c.flush.new.self)
+    c.loop-i.invariant.more (omega (arith, c.flush.ensures.calls)) c.loop-i.invariant.copied c.loop-i.invariant.left
+    (stops_flush (InSet shape c.args.first 1 c.args.end) (g.D.ZonedDisk.zones c.loop-i.disk) (g.D.ZonedDisk.calls c.loop-i.disk) (g.D.ZonedDisk.calls c.flush.new.self) (g.D.ZonedDisk.left c.loop-i.disk) (g.D.ZonedDisk.left c.flush.new.self) c.flush.ensures.calls
+    (λ image can. (d.leaves c.loop-i.disk (g.D.ZonedDisk.calls c.loop-i.disk) image (omega arith) can).0) c.flush.ensures.left)

@@ -4,8 +4,9 @@ use Rattle.zd_base.specs.Layout.{used_blocks}
 use Rattle.zd_model.specs.Image.{Image}
 use Rattle.zd_disk.proofs.ToldLaws.{Both-new, Some-same}
 use Rattle.zd_disk.specs.Told.{Both}
-use Rattle.zd_sets.specs.Equal.{HasBlocks, HasSuper, IsCleared, IsMadeEqual}
+use Rattle.zd_sets.specs.Equal.{HasBlocks, HasSuper, InSet, IsCleared, IsMadeEqual}
 use Rattle.zd_sets.proofs.EqualLaws.{Both-then, made_equal, ready, still_ready}
+use Rattle.zd_sets.proofs.StopLaws.{stops_more, stops_then}
 use Rattle.zd_sets.proofs.equal.make_equal.Goals as goal
 
 pub returns-clause-ok : goal.returns-clause-ok
@@ -45,3 +46,31 @@ put_super-requires-clause-ready g c = λ low middle m image can.
     let here = Some-same _ _ (sym (d.agrees c.copy_blocks.new.disk middle m) ∙ c.in_ok-copy_blocks.ensures.told ∙ c.in_ok-clear_bad.ensures.told ∙ c.requires.told) in
     still_ready shape chosen bytes c.requires.placed (omega arith) middle image here (d.shaped c.copy_blocks.new.disk middle m) (c.in_ok-copy_blocks.ensures.durable low middle m image can)
     (ready shape chosen bytes c.requires.placed (omega arith) old from.2.0 middle first (c.requires.blocks old from.1) (c.requires.chosen old from.1).other_good from.2.1 from.2.2)
+
+pub returns-in_err-copy_blocks-clause-left : goal.returns-in_err-copy_blocks-clause-left
+returns-in_err-copy_blocks-clause-left g c =
+    let shape = c.args.geometry.now in
+    let chosen = c.args.chosen.now in
+    stops_then (InSet shape chosen.other 0 (used_blocks shape chosen.head.layout)) (IsCleared shape chosen.other chosen.other_good) (g.D.ZonedDisk.zones c.args.disk.now) (g.D.ZonedDisk.zones c.clear_bad.new.disk) (g.D.ZonedDisk.calls c.args.disk.now) (g.D.ZonedDisk.calls c.clear_bad.new.disk) (g.D.ZonedDisk.calls c.copy_blocks.new.disk) (g.D.ZonedDisk.left c.args.disk.now) (g.D.ZonedDisk.left c.clear_bad.new.disk) (g.D.ZonedDisk.left c.copy_blocks.new.disk)
+    c.clear_bad.ensures.calls c.copy_blocks.ensures.calls c.in_ok-clear_bad.ensures.ok
+    (stops_more (InSet shape chosen.other 0 1) (InSet shape chosen.other 0 (used_blocks shape chosen.head.layout)) (g.D.ZonedDisk.zones c.args.disk.now) (g.D.ZonedDisk.calls c.args.disk.now) (g.D.ZonedDisk.calls c.clear_bad.new.disk) (g.D.ZonedDisk.left c.args.disk.now) (g.D.ZonedDisk.left c.clear_bad.new.disk)
+    (λ z x p. (p.0, p.1, omega (arith, p.2), p.3, p.4)) c.clear_bad.ensures.left)
+    (stops_more (InSet shape chosen.other 1 c.used_blocks-used.result) (InSet shape chosen.other 0 (used_blocks shape chosen.head.layout)) (g.D.ZonedDisk.zones c.clear_bad.new.disk) (g.D.ZonedDisk.calls c.clear_bad.new.disk) (g.D.ZonedDisk.calls c.copy_blocks.new.disk) (g.D.ZonedDisk.left c.clear_bad.new.disk) (g.D.ZonedDisk.left c.copy_blocks.new.disk)
+    (λ z x p. (p.0, omega arith, omega (arith, p.2, c.used_blocks-used.ensures), p.3, p.4)) c.copy_blocks.ensures.left)
+
+pub returns-clause-left : goal.returns-clause-left
+returns-clause-left g c =
+    let shape = c.args.geometry.now in
+    let chosen = c.args.chosen.now in
+    let both = Both-then (g.D.ZonedDisk.zones c.args.disk.now) (g.D.ZonedDisk.zones c.clear_bad.new.disk) (g.D.ZonedDisk.zones c.copy_blocks.new.disk) (IsCleared shape chosen.other chosen.other_good) (HasBlocks shape chosen.other 1 c.used_blocks-used.result c.args.blocks.now) (λ a b. Unit)
+    (λ a b k e m clear blocks. tt) c.in_ok-clear_bad.ensures.ok c.in_ok-copy_blocks.ensures.ok in
+    stops_then (InSet shape chosen.other 0 (used_blocks shape chosen.head.layout)) (λ a b. Unit) (g.D.ZonedDisk.zones c.args.disk.now) (g.D.ZonedDisk.zones c.copy_blocks.new.disk) (g.D.ZonedDisk.calls c.args.disk.now) (g.D.ZonedDisk.calls c.copy_blocks.new.disk) (g.D.ZonedDisk.calls c.put_super.new.disk) (g.D.ZonedDisk.left c.args.disk.now) (g.D.ZonedDisk.left c.copy_blocks.new.disk) (g.D.ZonedDisk.left c.put_super.new.disk)
+    (omega (arith, c.clear_bad.ensures.calls, c.copy_blocks.ensures.calls)) c.put_super.ensures.calls both
+    (stops_then (InSet shape chosen.other 0 (used_blocks shape chosen.head.layout)) (IsCleared shape chosen.other chosen.other_good) (g.D.ZonedDisk.zones c.args.disk.now) (g.D.ZonedDisk.zones c.clear_bad.new.disk) (g.D.ZonedDisk.calls c.args.disk.now) (g.D.ZonedDisk.calls c.clear_bad.new.disk) (g.D.ZonedDisk.calls c.copy_blocks.new.disk) (g.D.ZonedDisk.left c.args.disk.now) (g.D.ZonedDisk.left c.clear_bad.new.disk) (g.D.ZonedDisk.left c.copy_blocks.new.disk)
+    c.clear_bad.ensures.calls c.copy_blocks.ensures.calls c.in_ok-clear_bad.ensures.ok
+    (stops_more (InSet shape chosen.other 0 1) (InSet shape chosen.other 0 (used_blocks shape chosen.head.layout)) (g.D.ZonedDisk.zones c.args.disk.now) (g.D.ZonedDisk.calls c.args.disk.now) (g.D.ZonedDisk.calls c.clear_bad.new.disk) (g.D.ZonedDisk.left c.args.disk.now) (g.D.ZonedDisk.left c.clear_bad.new.disk)
+    (λ z x p. (p.0, p.1, omega (arith, p.2), p.3, p.4)) c.clear_bad.ensures.left)
+    (stops_more (InSet shape chosen.other 1 c.used_blocks-used.result) (InSet shape chosen.other 0 (used_blocks shape chosen.head.layout)) (g.D.ZonedDisk.zones c.clear_bad.new.disk) (g.D.ZonedDisk.calls c.clear_bad.new.disk) (g.D.ZonedDisk.calls c.copy_blocks.new.disk) (g.D.ZonedDisk.left c.clear_bad.new.disk) (g.D.ZonedDisk.left c.copy_blocks.new.disk)
+    (λ z x p. (p.0, omega arith, omega (arith, p.2, c.used_blocks-used.ensures), p.3, p.4)) c.copy_blocks.ensures.left))
+    (stops_more (InSet shape chosen.other 0 1) (InSet shape chosen.other 0 (used_blocks shape chosen.head.layout)) (g.D.ZonedDisk.zones c.copy_blocks.new.disk) (g.D.ZonedDisk.calls c.copy_blocks.new.disk) (g.D.ZonedDisk.calls c.put_super.new.disk) (g.D.ZonedDisk.left c.copy_blocks.new.disk) (g.D.ZonedDisk.left c.put_super.new.disk)
+    (λ z x p. (p.0, p.1, omega (arith, p.2), p.3, p.4)) c.put_super.ensures.left)

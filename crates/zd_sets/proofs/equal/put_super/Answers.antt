@@ -1,13 +1,15 @@
-use Rattle.std.proofs.Common.{Option, IsSomeAnd, sym, ◌∙◌, subst, arith}
+use Rattle.std.proofs.Common.{◌≡◌, Option, IsSomeAnd, sym, ◌∙◌, subst, arith}
 use Rattle.std.proofs.lemmas.Result.{on_ok_weaker}
 use Rattle.zd_base.specs.Geometry.{Shape}
 use Rattle.zd_model.specs.Image.{Same}
 use Rattle.zd_model.specs.Super.{HasSizes, block_of}
 use Rattle.zd_model.specs.declared.metadata.Super.{Super}
+use Rattle.zd_model.proofs.SuperSpelling.{spells}
 use Rattle.zd_disk.proofs.ToldLaws.{Some-same}
-use Rattle.zd_sets.specs.Equal.{HasSuper}
+use Rattle.zd_sets.specs.Equal.{HasSuper, InSet}
 use Rattle.zd_sets.specs.Writes.{IsConventionalBlock, WroteBlock}
-use Rattle.zd_sets.proofs.EqualLaws.{Both-then, durable_new, ok_anyway, super_put}
+use Rattle.zd_sets.proofs.EqualLaws.{Both-then, at_front, durable_new, ok_anyway, super_put}
+use Rattle.zd_sets.proofs.StopLaws.{stops_flush, stops_more, stops_then, stops_write}
 use Rattle.zd_sets.proofs.equal.put_super.Goals as goal
 
 pub write_super-requires : goal.write_super-requires
@@ -35,3 +37,33 @@ pub returns-clause-durable : goal.returns-clause-durable
 returns-clause-durable g c =
     on_ok_weaker c.flush.result (durable_new (g.D.ZonedDisk.zones c.write_super.new.disk) (g.D.ZonedDisk.zones c.flush.new.self) (g.D.ZonedDisk.calls c.flush.new.self) (g.D.ZonedDisk.left c.flush.new.self) c.flush.ensures.zones)
     c.flush.ensures.durable
+
+pub returns-in_err-write_super-clause-left : goal.returns-in_err-write_super-clause-left
+returns-in_err-write_super-clause-left g c =
+    let d = g.met.D.ZonedDisk in
+    let some = c.zone_blocks-zone_blocks.ensures.shape.size.least in
+    let shape = c.args.geometry.now in
+    stops_more (λ z k. (z ≡ c.args.chosen.now.other) × (k ≡ 0)) (InSet shape c.args.chosen.now.other 0 1) (g.D.ZonedDisk.zones c.args.disk.now) (g.D.ZonedDisk.calls c.args.disk.now) (g.D.ZonedDisk.calls c.write_super.new.disk) (g.D.ZonedDisk.left c.args.disk.now) (g.D.ZonedDisk.left c.write_super.new.disk)
+    (at_front shape c.args.chosen.now.other)
+    (stops_write shape c.args.chosen.now.other 0 8 (block_of c.head_at-head.result) (g.D.ZonedDisk.zones c.args.disk.now) (g.D.ZonedDisk.zones c.write_super.new.disk) (g.D.ZonedDisk.calls c.args.disk.now) (g.D.ZonedDisk.calls c.write_super.new.disk) (g.D.ZonedDisk.left c.args.disk.now) (g.D.ZonedDisk.left c.write_super.new.disk)
+    c.requires.placed.other (omega arith) (spells c.head_at-head.result c.head_at-head.ensures.sizes).bytes.count (omega arith) c.write_super.ensures.calls
+    (λ image can. (d.leaves c.args.disk.now (g.D.ZonedDisk.calls c.args.disk.now) image (omega arith) can).0)
+    (λ image can. Some-same _ _ (sym (d.leaves c.args.disk.now (g.D.ZonedDisk.calls c.args.disk.now) image (omega arith) can).1 ∙ c.requires.told))
+    c.write_super.ensures.left)
+
+pub returns-clause-left : goal.returns-clause-left
+returns-clause-left g c =
+    let d = g.met.D.ZonedDisk in
+    let some = c.zone_blocks-zone_blocks.ensures.shape.size.least in
+    let shape = c.args.geometry.now in
+    stops_then (InSet shape c.args.chosen.now.other 0 1) (WroteBlock c.args.chosen.now.other 0 (block_of c.head_at-head.result)) (g.D.ZonedDisk.zones c.args.disk.now) (g.D.ZonedDisk.zones c.write_super.new.disk) (g.D.ZonedDisk.calls c.args.disk.now) (g.D.ZonedDisk.calls c.write_super.new.disk) (g.D.ZonedDisk.calls c.flush.new.self) (g.D.ZonedDisk.left c.args.disk.now) (g.D.ZonedDisk.left c.write_super.new.disk) (g.D.ZonedDisk.left c.flush.new.self)
+    (omega (arith, c.write_super.ensures.calls)) (omega (arith, c.flush.ensures.calls)) c.in_ok-write_super.ensures.ok
+    (stops_more (λ z k. (z ≡ c.args.chosen.now.other) × (k ≡ 0)) (InSet shape c.args.chosen.now.other 0 1) (g.D.ZonedDisk.zones c.args.disk.now) (g.D.ZonedDisk.calls c.args.disk.now) (g.D.ZonedDisk.calls c.write_super.new.disk) (g.D.ZonedDisk.left c.args.disk.now) (g.D.ZonedDisk.left c.write_super.new.disk)
+    (at_front shape c.args.chosen.now.other)
+    (stops_write shape c.args.chosen.now.other 0 8 (block_of c.head_at-head.result) (g.D.ZonedDisk.zones c.args.disk.now) (g.D.ZonedDisk.zones c.write_super.new.disk) (g.D.ZonedDisk.calls c.args.disk.now) (g.D.ZonedDisk.calls c.write_super.new.disk) (g.D.ZonedDisk.left c.args.disk.now) (g.D.ZonedDisk.left c.write_super.new.disk)
+    c.requires.placed.other (omega arith) (spells c.head_at-head.result c.head_at-head.ensures.sizes).bytes.count (omega arith) c.write_super.ensures.calls
+    (λ image can. (d.leaves c.args.disk.now (g.D.ZonedDisk.calls c.args.disk.now) image (omega arith) can).0)
+    (λ image can. Some-same _ _ (sym (d.leaves c.args.disk.now (g.D.ZonedDisk.calls c.args.disk.now) image (omega arith) can).1 ∙ c.requires.told))
+    c.write_super.ensures.left))
+    (stops_flush (InSet shape c.args.chosen.now.other 0 1) (g.D.ZonedDisk.zones c.write_super.new.disk) (g.D.ZonedDisk.calls c.write_super.new.disk) (g.D.ZonedDisk.calls c.flush.new.self) (g.D.ZonedDisk.left c.write_super.new.disk) (g.D.ZonedDisk.left c.flush.new.self) c.flush.ensures.calls
+    (λ image can. (d.leaves c.write_super.new.disk (g.D.ZonedDisk.calls c.write_super.new.disk) image (omega arith) can).0) c.flush.ensures.left)
