@@ -46,10 +46,10 @@ joined bytes block b s (suc k) each =
     ∙ joined bytes block b (s + 1) k (λ i low high. each i (omega arith) (omega arith)))
 
 module _ (image : Image) (c : Chosen) (bytes : List ℕ) (fits : Fits image.geometry c.head.layout) (blocks : AreBlocks image c.first (used_blocks image.geometry c.head.layout) bytes) where
-  entry_is : (chunk : ℕ) → chunk < c.head.layout.chunks → entry_in_blocks bytes chunk ≡ entry_in image c chunk
+  pub entry_is : (chunk : ℕ) → chunk < c.head.layout.chunks → entry_in_blocks bytes chunk ≡ entry_in image c chunk
   entry_is chunk low = (let map_fits = fits.map in ap (λ (block : List ℕ). entry_at block (chunk % 512)) (blocks.each (1 + chunk / 512) (omega arith)))
 
-  bits_are : (zone : ℕ) → zone < zone_count image.geometry → bits_in_blocks image.geometry c.head.layout bytes zone ≡ bits_in image c zone
+  pub bits_are : (zone : ℕ) → zone < zone_count image.geometry → bits_in_blocks image.geometry c.head.layout bytes zone ≡ bits_in image c zone
   bits_are zone low =
       let first : ℕ = 1 + c.head.layout.map_blocks + zone * per image.geometry in
       ap (λ b. blocks_of bytes b (per image.geometry)) (let e : first ≡ first + 0 = omega arith in e)

@@ -18,7 +18,8 @@ use Rattle.zd_model.specs.declared.metadata.Super.{Super}
 use Rattle.zd_model.specs.declared.requests.What.TheVariants.{Read}
 use Rattle.zd_model.proofs.ContentLaws.{length-content}
 use Rattle.zd_sets.specs.Blocks.{AreBlocks}
-use Rattle.zd_replay.specs.Opening.{HasFirstSet, IsOpened, IsUsable, base_of, bits_in_blocks, entry_in_blocks, front_set}
+use Rattle.zd_replay.specs.Opening.{HasFirstSet, IsOpened, IsUsable, base_of, front_set}
+use Rattle.zd_open.specs.Tables.{bits_in_blocks, entry_in_blocks}
 use Rattle.zd_replay.specs.Run.{zero_block, block_by, blocks_by}
 use Rattle.zd_replay.proofs.BlockLaws.{by_blocks, same_joined, zero_joined}
 use Rattle.zd_replay.proofs.TableLaws.{bits_are, entry_is}

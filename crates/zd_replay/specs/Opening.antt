@@ -1,7 +1,7 @@
 -- What opening finds by the first set of metadata alone.
 use Rattle.std.specs.Prelude.{◌≡◌, ℕ, ◌<◌, ◌/◌, ◌%◌, ◌+◌, ◌*◌, ◌≤◌, List, [], length, Option, Some, None, Result, Err}
 use Rattle.std.specs.Option.{option_map_or}
-use Rattle.zd_base.specs.Geometry.{Shape, per}
+use Rattle.zd_base.specs.Geometry.{Shape}
 use Rattle.zd_base.specs.Layout.{Fits, set_zones, used_blocks, first_data_zone}
 use Rattle.zd_base.specs.declared.layout.Layout.{Layout as Sizes}
 use Rattle.zd_model.specs.Image.{Image, set_block}
@@ -12,7 +12,8 @@ use Rattle.zd_model.specs.declared.metadata.Super.{Super}
 use Rattle.zd_model.specs.declared.texts.NoVolume.{NoVolume}
 use Rattle.zd_model.specs.declared.texts.NoVolume.TheVariants.{NoSuperBlock, Layout}
 use Rattle.zd_base.specs.Faults.{Rose}
-use Rattle.zd_sets.specs.Blocks.{blocks_of, AreBlocks}
+use Rattle.zd_sets.specs.Blocks.{AreBlocks}
+use Rattle.zd_open.specs.Tables.{entry_in_blocks}
 use Rattle.zd_replay.specs.declared.opening.OpenFault.{OpenFault}
 use Rattle.zd_replay.specs.declared.opening.OpenFault.TheVariants.{Device, NoVolume as Refused, NotBuilt, Memory}
 
@@ -58,14 +59,6 @@ abbrev pub HasOtherData : Image → Type 0
 HasOtherData image = (head : Super) × (chunk : ℕ) ×
     HasFirstSet image head × (chunk < head.layout.chunks)
     × (IsReadable image.geometry head.layout (first_entry image chunk) → ⊥)
-
--- the entry of a chunk, in the blocks of a set
-abbrev pub entry_in_blocks : List ℕ → ℕ → MapEntry
-entry_in_blocks bytes chunk = entry_at (blocks_of bytes (1 + chunk / 512) 1) (chunk % 512)
-
--- the bitmap of a zone there
-abbrev pub bits_in_blocks : Shape → Sizes → List ℕ → ℕ → List ℕ
-bits_in_blocks g l bytes zone = blocks_of bytes (1 + l.map_blocks + zone * per g) (per g)
 
 -- the blocks of a set that can be read, whatever the disk tells
 pub record IsUsable (g : Shape) (l : Sizes) (bytes : List ℕ) : Type 0 where

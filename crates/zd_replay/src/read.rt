@@ -11,11 +11,11 @@ ghost use Rattle.zd_replay.specs.Opening.{IsOpened, IsUsable, base_of};
 ghost use Rattle.zd_replay.specs.Run.{IsReply, blocks_by};
 
 use crate::opening::Opened;
-use crate::tables::{bits, entry};
 use std::alloc::Global;
 use zd_base::{BLOCK, Failed, Geometry, Memory, ZoneNo};
 use zd_bits::run_at;
 use zd_disk::ZonedDisk;
+use zd_open::{bits, entry};
 use zd_plain::{Bytes, Reply};
 
 /// The bytes of so many blocks of zeros.

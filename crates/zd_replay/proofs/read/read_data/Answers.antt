@@ -2,7 +2,7 @@ use Rattle.std.proofs.Common.{◌≡◌, ◌<◌, ◌/◌, ◌%◌, ◌++◌, �
 use Rattle.std.proofs.Math.Seq.{take-append_seam}
 use Rattle.zd_model.specs.Plain.Answer.{Got}
 use Rattle.zd_model.specs.declared.metadata.MapEntry.{MapEntry}
-use Rattle.zd_replay.specs.Opening.{entry_in_blocks}
+use Rattle.zd_open.specs.Tables.{entry_in_blocks}
 use Rattle.zd_replay.specs.Run.{blocks_by}
 use Rattle.zd_replay.proofs.BaseLaws.{data_are, zeros_are}
 use Rattle.zd_replay.proofs.read.read_data.Goals as goal
@@ -34,5 +34,5 @@ returns-in-Ok-clause-reply g c image z o =
     let new = c.read_runs.new.into in
     let count : length new ≡ length old = omega (arith, c.read_runs.auto.into, ap (λ (xs : List ℕ). length xs) c.bytes_mut.ensures.value) in
     inl (ap Got (written old new count ∙ c.in-Ok.ensures.value image z
-    ∙ ap₂ (λ (bits : List ℕ) (n : ℕ). blocks_by bits image zone (c.args.block % n) c.args.count) c.bits-bits.ensures size)
+    ∙ ap₂ (λ (bits : List ℕ) (n : ℕ). blocks_by bits image zone (c.args.block % n) c.args.count) c.bits-bits.ensures.value size)
     ∙ data_are opened.geometry opened.head opened.blocks image o c.requires.usable some c.args.block c.args.count c.requires.device c.requires.chunk zone named)

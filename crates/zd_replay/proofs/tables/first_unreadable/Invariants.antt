@@ -1,5 +1,6 @@
 use Rattle.std.proofs.Common.{ℕ, ◌<◌}
-use Rattle.zd_replay.specs.Opening.{IsReadable, entry_in_blocks}
+use Rattle.zd_open.specs.Tables.{entry_in_blocks}
+use Rattle.zd_replay.specs.Opening.{IsReadable}
 use Rattle.zd_replay.proofs.tables.first_unreadable.Given as goal
 
 -- the data of the chunks so far can be read
