@@ -11,6 +11,7 @@ use std::test::Fail;
 use zd_base::{Layout, ZoneNo};
 use zd_disk::FileDisk;
 use zd_memdisk::{DeviceCall, Fail as Failing, MemDisk};
+use zd_open::examine;
 
 /// The volume of the rows with one block of data, block 1 of chunk 0, in zone 2.
 fn one_block(rt: &(impl Abort + AllocGlobal)) -> Result<MemDisk, Fail> {
@@ -122,6 +123,7 @@ fn a_zone_may_have_two_bitmap_blocks(rt: HostRuntime) -> Result<(), Fail> {
     for (block, seed) in [(32_767, 5), (32_768, 5), (65_535, 6)] {
         put(&rt, &mut disk, 2, block, &patterned(seed, block))?;
     }
+    assert_eq!(rt; examine(rt.alloc(), &mut disk)?.chosen.set, 0);
     let output = "0 1 0 r 32766 4 data z8,p5x16,z8 @0;\
         0 2 0 r 65534 2 data z8,p6x8 @0;\
         0 2 1 r 65536 2 data z16 @0;\

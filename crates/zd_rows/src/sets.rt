@@ -10,7 +10,7 @@ use zd_sets::{Chosen, SetFault, choose, make_equal, read_set, write_block, write
 use zd_super::crc32_le;
 
 /// A layout whose sets take two zones of 16 blocks each.
-const WIDE: Layout = Layout {
+pub const WIDE: Layout = Layout {
     meta_blocks: 20,
     reserved: 2,
     chunks: 6,
@@ -19,20 +19,25 @@ const WIDE: Layout = Layout {
 };
 
 /// A block that begins with the magic bytes, and is no super block.
-fn magic() -> [u8; 4096] {
+pub fn magic() -> [u8; 4096] {
     let mut block = [0; 4096];
     block[0..4].copy_from_slice(&[0x44, 0x42, 0x5a, 0x44]);
     block
 }
 
-/// The super block of the volume of the rows with this own number, in another generation.
-fn of_generation(own: u64, generation: u64) -> [u8; 4096] {
-    let mut block = super_block(&SMALL, own);
+/// A super block with this layout and own number, in another generation.
+pub fn in_generation(layout: &Layout, own: u64, generation: u64) -> [u8; 4096] {
+    let mut block = super_block(layout, own);
     block[8..16].copy_from_slice(&generation.to_le_bytes());
     block[44..48].copy_from_slice(&[0; 4]);
     let crc = crc32_le((generation & 0xFFFF_FFFF) as u32, &block);
     block[44..48].copy_from_slice(&crc.to_le_bytes());
     block
+}
+
+/// The super block of the volume of the rows with this own number, in another generation.
+fn of_generation(own: u64, generation: u64) -> [u8; 4096] {
+    in_generation(&SMALL, own, generation)
 }
 
 fn chosen(disk: &mut MemDisk) -> Result<Chosen, SetFault> {
