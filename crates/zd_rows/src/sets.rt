@@ -1,12 +1,12 @@
-//! Which of both sets of metadata is chosen, and how sets are read and written.
+//! Which of both sets of metadata is chosen.
 
 use crate::fresh::{SMALL, fresh, put, super_block, write_at};
 use std::process::Abort;
 use std::test::Fail;
-use zd_base::{Geometry, Layout, ZoneNo};
+use zd_base::{Geometry, Layout};
 use zd_disk::ZonedDisk;
 use zd_memdisk::MemDisk;
-use zd_sets::{Chosen, SetFault, choose, read_set, write_block, write_super};
+use zd_sets::{Chosen, SetFault, choose};
 use zd_super::crc32_le;
 
 /// A layout whose sets take two zones of 16 blocks each.
@@ -108,29 +108,5 @@ fn the_scan_ends_at_the_first_magic(rt: HostRuntime) -> Result<(), Fail> {
     assert_eq!(rt; chosen(&mut disk), Err(SetFault::Layout));
     put(&rt, &mut disk, 1, 0, &magic())?;
     assert_eq!(rt; chosen(&mut disk), Err(SetFault::NoSuperBlock));
-    Ok(())
-}
-
-#[test]
-fn a_set_is_read_and_written(rt: HostRuntime) -> Result<(), Fail> {
-    let mut disk = fresh(&rt)?;
-    let geometry = disk.geometry()?;
-    let found = choose(&mut disk, &geometry)?;
-    let mut blocks = read_set(rt.alloc(), &mut disk, &geometry, &found)?;
-    assert!(rt; blocks.block(0) == super_block(&SMALL, 0).as_slice());
-    assert!(rt; blocks.block(1) == [0xFF; 4096].as_slice());
-    blocks.block_mut(13)[0] = 7;
-    assert_eq!(rt; blocks.block(13)[0], 7);
-    write_block(&mut disk, &geometry, ZoneNo(1), 13, blocks.block(13))?;
-    let mut head = found.head;
-    head.own = 16;
-    head.generation = 9;
-    write_super(&mut disk, ZoneNo(1), &head)?;
-    let newer = choose(&mut disk, &geometry)?;
-    assert_eq!(rt; newer.set, 1);
-    assert_eq!(rt; newer.head, head);
-    let other = read_set(rt.alloc(), &mut disk, &geometry, &newer)?;
-    assert!(rt; other.block(0) == of_generation(16, 9).as_slice());
-    assert_eq!(rt; other.block(13)[0], 7);
     Ok(())
 }
