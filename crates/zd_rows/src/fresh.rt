@@ -33,7 +33,7 @@ const DEVICE: [u8; 16] = [
 ];
 
 /// Writes bytes into a block, from byte `at` on.
-fn write_at(block: &mut [u8; 4096], at: usize, bytes: &[u8])
+pub fn write_at(block: &mut [u8; 4096], at: usize, bytes: &[u8])
     requires { at + length bytes.now ≤ 4096 }
 {
     block[at..at + bytes.len()].copy_from_slice(bytes);

@@ -8,6 +8,8 @@
 #[cfg(test)]
 mod data;
 #[cfg(test)]
+mod equal_sets;
+#[cfg(test)]
 mod failures;
 #[cfg(test)]
 mod formatting;

@@ -1,12 +1,12 @@
-//! Which of both sets of metadata is chosen, and how sets are read and written.
+//! Which of both sets of metadata is chosen.
 
-use crate::fresh::{SMALL, fresh, put, super_block};
+use crate::fresh::{SMALL, fresh, put, super_block, write_at};
 use std::process::Abort;
 use std::test::Fail;
-use zd_base::{Geometry, Layout, ZoneNo};
+use zd_base::{Geometry, Layout};
 use zd_disk::ZonedDisk;
 use zd_memdisk::MemDisk;
-use zd_sets::{Chosen, SetFault, choose, make_equal, read_set, write_block, write_super};
+use zd_sets::{Chosen, SetFault, choose};
 use zd_super::crc32_le;
 
 /// A layout whose sets take two zones of 16 blocks each.
@@ -28,10 +28,10 @@ pub fn magic() -> [u8; 4096] {
 /// A super block with this layout and own number, in another generation.
 pub fn in_generation(layout: &Layout, own: u64, generation: u64) -> [u8; 4096] {
     let mut block = super_block(layout, own);
-    block[8..16].copy_from_slice(&generation.to_le_bytes());
-    block[44..48].copy_from_slice(&[0; 4]);
+    write_at(&mut block, 8, &generation.to_le_bytes());
+    write_at(&mut block, 44, &[0; 4]);
     let crc = crc32_le((generation & 0xFFFF_FFFF) as u32, &block);
-    block[44..48].copy_from_slice(&crc.to_le_bytes());
+    write_at(&mut block, 44, &crc.to_le_bytes());
     block
 }
 
@@ -113,53 +113,5 @@ fn the_scan_ends_at_the_first_magic(rt: HostRuntime) -> Result<(), Fail> {
     assert_eq!(rt; chosen(&mut disk), Err(SetFault::Layout));
     put(&rt, &mut disk, 1, 0, &magic())?;
     assert_eq!(rt; chosen(&mut disk), Err(SetFault::NoSuperBlock));
-    Ok(())
-}
-
-#[test]
-fn a_set_is_read_and_written(rt: HostRuntime) -> Result<(), Fail> {
-    let mut disk = fresh(&rt)?;
-    let geometry = disk.geometry()?;
-    let found = choose(&mut disk, &geometry)?;
-    let mut blocks = read_set(rt.alloc(), &mut disk, &geometry, &found)?;
-    assert!(rt; blocks.block(0) == super_block(&SMALL, 0).as_slice());
-    assert!(rt; blocks.block(1) == [0xFF; 4096].as_slice());
-    blocks.block_mut(13)[0] = 7;
-    assert_eq!(rt; blocks.block(13)[0], 7);
-    write_block(&mut disk, &geometry, ZoneNo(1), 13, blocks.block(13))?;
-    let mut head = found.head;
-    head.own = 16;
-    head.generation = 9;
-    write_super(&mut disk, ZoneNo(1), &head)?;
-    let newer = choose(&mut disk, &geometry)?;
-    assert_eq!(rt; newer.set, 1);
-    assert_eq!(rt; newer.head, head);
-    let other = read_set(rt.alloc(), &mut disk, &geometry, &newer)?;
-    assert!(rt; other.block(0) == of_generation(16, 9).as_slice());
-    assert_eq!(rt; other.block(13)[0], 7);
-    Ok(())
-}
-
-/// The first set is chosen, and a stray block of the second set and its bad super block become those of
-/// the first. Then the second set opens alone.
-#[test]
-fn the_other_set_is_made_equal(rt: HostRuntime) -> Result<(), Fail> {
-    let mut disk = fresh(&rt)?;
-    put(&rt, &mut disk, 1, 0, &[0xAB; 4096])?;
-    put(&rt, &mut disk, 1, 13, &[1; 4096])?;
-    let geometry = disk.geometry()?;
-    let first = choose(&mut disk, &geometry)?;
-    let blocks = read_set(rt.alloc(), &mut disk, &geometry, &first)?;
-    assert!(rt; !first.other_good);
-    make_equal(&mut disk, &geometry, &first, &blocks)?;
-    assert!(rt; expect(&rt, &mut disk, 0, [0, 1], 1)?);
-    put(&rt, &mut disk, 0, 0, &[0; 4096])?;
-    let second = choose(&mut disk, &geometry)?;
-    assert_eq!(rt; second.set, 1);
-    let copied = read_set(rt.alloc(), &mut disk, &geometry, &second)?;
-    assert!(rt; copied.block(0) == super_block(&SMALL, 16).as_slice());
-    for i in 1..14 {
-        assert!(rt; copied.block(i) == blocks.block(i), "{i}");
-    }
     Ok(())
 }
