@@ -19,10 +19,7 @@ fn make_sets_equal<D: ZonedDisk>(alloc: Global, disk: &mut D) -> Result<Chosen, 
 }
 
 /// Writes the super block of the chosen set, as it is, over that of the other set.
-fn copy_super<D: ZonedDisk>(
-    rt: &(impl Abort + AllocGlobal),
-    disk: &mut D,
-) -> Result<(), Fail> {
+fn copy_super<D: ZonedDisk>(rt: &(impl Abort + AllocGlobal), disk: &mut D) -> Result<(), Fail> {
     let geometry = disk.geometry()?;
     let _zone_blocks = geometry.zone_blocks();
     let chosen = choose(disk, &geometry)?;
