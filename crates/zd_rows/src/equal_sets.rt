@@ -18,13 +18,14 @@ fn make_sets_equal<D: ZonedDisk>(alloc: Global, disk: &mut D) -> Result<Chosen, 
     Ok(chosen)
 }
 
-/// Writes the super block of the chosen set, as it is, over that of the other set.
-fn copy_super<D: ZonedDisk>(rt: &(impl Abort + AllocGlobal), disk: &mut D) -> Result<(), Fail> {
+/// Writes other bytes over the super block of the other set, and lends that of the chosen one.
+fn spoil_super<D: ZonedDisk>(rt: &(impl Abort + AllocGlobal), disk: &mut D) -> Result<(), Fail> {
     let geometry = disk.geometry()?;
     let _zone_blocks = geometry.zone_blocks();
     let chosen = choose(disk, &geometry)?;
     let mut blocks = read_set(rt.alloc(), disk, &geometry, &chosen)?;
-    write_block(disk, &geometry, chosen.other, 0, blocks.block(0))?;
+    write_block(disk, &geometry, chosen.other, 0, &[0x5A; 4096])?;
+    assert_eq!(rt; blocks.block(0).first().copied(), Some(0x44));
     assert_eq!(rt; blocks.block_mut(0).first().copied(), Some(0x44));
     Ok(())
 }
@@ -65,7 +66,7 @@ fn the_other_set_is_made_equal(rt: HostRuntime) -> Result<(), Fail> {
 #[test]
 fn super_blocks_are_written(rt: HostRuntime) -> Result<(), Fail> {
     let mut disk = fresh(&rt)?;
-    copy_super(&rt, &mut disk)?;
+    spoil_super(&rt, &mut disk)?;
     let image = examine(rt.alloc(), &mut disk)?;
     assert_eq!(rt; image.chosen.set, 0);
     assert!(rt; !image.chosen.other_good);
