@@ -19,6 +19,8 @@ pub fn outcome_examples()
         ≡ codes "end 3 volume no-super-block\n" }
     ensures layout { outcome_text (Outcome.NoVolume NoVolume.Layout)
         ≡ codes "end 3 volume layout\n" }
+    ensures map { outcome_text (Outcome.NoVolume (NoVolume.BadMap 1)) ≡ codes "end 3 volume map 1\n" }
+    ensures bits { outcome_text (Outcome.NoVolume (NoVolume.BadBits 7 3)) ≡ codes "end 3 volume bits 7 3\n" }
     ensures device { outcome_text (Outcome.Ended (Ending.Stopped Why.Device))
         ≡ codes "end 4 device\n" }
     ensures source { outcome_text Outcome.Source ≡ codes "end 5 source\n" }
@@ -34,8 +36,9 @@ pub fn status_examples()
     ensures ended { map status_of (Outcome.Ended Ending.Ok ∷ Outcome.Usage ∷ Outcome.Source ∷ [])
         ≡ 0 ∷ 1 ∷ 5 ∷ [] }
     ensures no_volume { map status_of
-        (Outcome.NoVolume NoVolume.NoSuperBlock ∷ Outcome.NoVolume NoVolume.Layout ∷ [])
-        ≡ 3 ∷ 3 ∷ [] }
+        (Outcome.NoVolume NoVolume.NoSuperBlock ∷ Outcome.NoVolume NoVolume.Layout
+        ∷ Outcome.NoVolume (NoVolume.BadMap 1) ∷ Outcome.NoVolume (NoVolume.BadBits 7 3) ∷ [])
+        ≡ 3 ∷ 3 ∷ 3 ∷ 3 ∷ [] }
     ensures stopped { map status_of (Outcome.Ended (Ending.Stopped Why.Device)
         ∷ Outcome.Ended (Ending.Stopped Why.Memory)
         ∷ Outcome.Ended (Ending.Stopped Why.Generation) ∷ Outcome.NotBuilt ∷ [])

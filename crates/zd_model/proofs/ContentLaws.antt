@@ -24,7 +24,7 @@ use Rattle.zd_model.proofs.SectorLaws.{zero_sector-sector}
 use Rattle.zd_model.proofs.SameLaws.{same_map, same_block, chosen_of_same, chosen_first, image_at}
 
 -- what holds of the sectors of valid blocks, and of zeros, holds of what is served
-where_it_is : (P : List ℕ → List ℕ → Type 0) (t : Tables) (x : ℕ) (zone : Option ℕ) (f g : ℕ → List ℕ) (d e : List ℕ) → ((z : ℕ) → zone ≡ Some z → IsTrue (is_valid t z x) → P (f z) (g z)) → P d e → P (option_map_or f (where_valid t x zone) d) (option_map_or g (where_valid t x zone) e)
+pub where_it_is : (P : List ℕ → List ℕ → Type 0) (t : Tables) (x : ℕ) (zone : Option ℕ) (f g : ℕ → List ℕ) (d e : List ℕ) → ((z : ℕ) → zone ≡ Some z → IsTrue (is_valid t z x) → P (f z) (g z)) → P d e → P (option_map_or f (where_valid t x zone) d) (option_map_or g (where_valid t x zone) e)
 where_it_is P t x None f g d e here rest = rest
 where_it_is P t x (Some z) f g d e here rest = by_test (is_valid t z x) refl
   where
@@ -70,7 +70,7 @@ content-sectors image c is_image shape well i d low =
     (served_with image c is_image well (λ u v. IsSector u) image.sector (λ z j z_low j_low. is_image.sectors z j j_low) zero_sector-sector (omega arith) i)
 
 -- a block of a set lies in one of its zones
-in_set : (z m b : ℕ) → 0 < z → b < m → b / z < rounded_up m z
+pub in_set : (z m b : ℕ) → 0 < z → b < m → b / z < rounded_up m z
 in_set z m b some low =
     let q : ℕ = b / z in
     let under : q * z ≤ b = div-mul-le_self b z in

@@ -157,6 +157,8 @@ ends outcomes.Usage = record { after = _; is = refl }
 ends (outcomes.BadScript line why) = record { after = _; is = refl }
 ends (outcomes.NoVolume volumes.NoSuperBlock) = record { after = _; is = refl }
 ends (outcomes.NoVolume volumes.Layout) = record { after = _; is = refl }
+ends (outcomes.NoVolume (volumes.BadMap chunk)) = record { after = _; is = refl }
+ends (outcomes.NoVolume (volumes.BadBits zone block)) = record { after = _; is = refl }
 ends outcomes.Source = record { after = _; is = refl }
 ends outcomes.NotBuilt = record { after = _; is = refl }
 
@@ -181,38 +183,50 @@ outcome_by status next letter =
 outcome_of : List ℕ → Outcome
 outcome_of xs = outcome_by (get_or xs 4 0) (get_or xs 5 0) (get_or xs 13 0)
 
--- no line of a script is told
-is_plain : Outcome → Bool
-is_plain (outcomes.BadScript line why) = false
-is_plain outcome = true
+-- which numbers are told: none, a line, a chunk, a zone with a block
+kind_of : Outcome → ℕ
+kind_of (outcomes.BadScript line why) = 1
+kind_of (outcomes.NoVolume (volumes.BadMap chunk)) = 2
+kind_of (outcomes.NoVolume (volumes.BadBits zone block)) = 3
+kind_of outcome = 0
 
--- the text determines the outcome, where it tells no line
-outcome-text : (o : Outcome) → is_plain o ≡ true → outcome_of (outcome_text o) ≡ o
-unfolding outcome_of outcome_by stopped_by is_plain
+-- by the digit behind `end ` and the first letter behind `volume `
+kind_by : ℕ → ℕ → ℕ
+kind_by status letter =
+    if status == 50 then 1 else
+    (if status == 51 then (if letter == 109 then 2 else (if letter == 98 then 3 else 0)) else 0)
+
+-- the text determines the outcome, where it tells no number
+outcome-text : (o : Outcome) → kind_of o ≡ 0 → outcome_of (outcome_text o) ≡ o
+unfolding outcome_of outcome_by stopped_by kind_of
 outcome-text (outcomes.Ended endings.Ok) h = refl
 outcome-text (outcomes.Ended (endings.Stopped whys.Device)) h = refl
 outcome-text (outcomes.Ended (endings.Stopped whys.Generation)) h = refl
 outcome-text (outcomes.Ended (endings.Stopped whys.Memory)) h = refl
 outcome-text outcomes.Usage h = refl
-outcome-text (outcomes.BadScript line why) h = absurd (false≢true h)
+outcome-text (outcomes.BadScript line why) h = absurd (omega arith)
 outcome-text (outcomes.NoVolume volumes.NoSuperBlock) h = refl
 outcome-text (outcomes.NoVolume volumes.Layout) h = refl
+outcome-text (outcomes.NoVolume (volumes.BadMap chunk)) h = absurd (omega arith)
+outcome-text (outcomes.NoVolume (volumes.BadBits zone block)) h = absurd (omega arith)
 outcome-text outcomes.Source h = refl
 outcome-text outcomes.NotBuilt h = refl
 
--- the digit behind `end ` says whether it tells one
-plain-text : (o : Outcome) → not (eqb (get_or (outcome_text o) 4 0) 50) ≡ is_plain o
-unfolding is_plain
-plain-text (outcomes.Ended endings.Ok) = refl
-plain-text (outcomes.Ended (endings.Stopped whys.Device)) = refl
-plain-text (outcomes.Ended (endings.Stopped whys.Generation)) = refl
-plain-text (outcomes.Ended (endings.Stopped whys.Memory)) = refl
-plain-text outcomes.Usage = refl
-plain-text (outcomes.BadScript line why) = refl
-plain-text (outcomes.NoVolume volumes.NoSuperBlock) = refl
-plain-text (outcomes.NoVolume volumes.Layout) = refl
-plain-text outcomes.Source = refl
-plain-text outcomes.NotBuilt = refl
+-- the text says which numbers are told
+kind-text : (o : Outcome) → kind_by (get_or (outcome_text o) 4 0) (get_or (outcome_text o) 13 0) ≡ kind_of o
+unfolding kind_of kind_by
+kind-text (outcomes.Ended endings.Ok) = refl
+kind-text (outcomes.Ended (endings.Stopped whys.Device)) = refl
+kind-text (outcomes.Ended (endings.Stopped whys.Generation)) = refl
+kind-text (outcomes.Ended (endings.Stopped whys.Memory)) = refl
+kind-text outcomes.Usage = refl
+kind-text (outcomes.BadScript line why) = refl
+kind-text (outcomes.NoVolume volumes.NoSuperBlock) = refl
+kind-text (outcomes.NoVolume volumes.Layout) = refl
+kind-text (outcomes.NoVolume (volumes.BadMap chunk)) = refl
+kind-text (outcomes.NoVolume (volumes.BadBits zone block)) = refl
+kind-text outcomes.Source = refl
+kind-text outcomes.NotBuilt = refl
 
 -- a rule, by its first letter
 rule_by : ℕ → BadLine
@@ -236,30 +250,85 @@ same_refusal m n v w e =
     let rule = sym (rule-text v) ∙ ap (λ (xs : List ℕ). rule_by (get_or xs 0 0)) same.after ∙ rule-text w in
     ap₂ (λ (l : ℕ) (y : BadLine). outcomes.BadScript l y) same.number rule
 
-told_line : (o p : Outcome) → is_plain o ≡ false → is_plain p ≡ false → outcome_text o ≡ outcome_text p → o ≡ p
-unfolding is_plain
-told_line (outcomes.BadScript m v) (outcomes.BadScript n w) h k e = same_refusal m n v w e
-told_line (outcomes.BadScript m v) (outcomes.Ended f) h k e = absurd (false≢true (sym k))
-told_line (outcomes.BadScript m v) outcomes.Usage h k e = absurd (false≢true (sym k))
-told_line (outcomes.BadScript m v) (outcomes.NoVolume f) h k e = absurd (false≢true (sym k))
-told_line (outcomes.BadScript m v) outcomes.Source h k e = absurd (false≢true (sym k))
-told_line (outcomes.BadScript m v) outcomes.NotBuilt h k e = absurd (false≢true (sym k))
-told_line (outcomes.Ended f) p h k e = absurd (false≢true (sym h))
-told_line outcomes.Usage p h k e = absurd (false≢true (sym h))
-told_line (outcomes.NoVolume f) p h k e = absurd (false≢true (sym h))
-told_line outcomes.Source p h k e = absurd (false≢true (sym h))
-told_line outcomes.NotBuilt p h k e = absurd (false≢true (sym h))
+-- a chunk that is told
+same_chunk : (m n : ℕ) → outcome_text (outcomes.NoVolume (volumes.BadMap m)) ≡ outcome_text (outcomes.NoVolume (volumes.BadMap n)) → m ≡ n
+same_chunk m n e =
+    let same = same_numeral m n 10 10 [] [] feed feed (ap (λ (xs : List ℕ). drop 17 xs) e) in
+    same.number
+
+-- a zone and a block that are told
+same_block : (m n x y : ℕ) → outcome_text (outcomes.NoVolume (volumes.BadBits m x)) ≡ outcome_text (outcomes.NoVolume (volumes.BadBits n y)) → (m ≡ n) × (x ≡ y)
+same_block m n x y e =
+    let zones = same_numeral m n 32 32 (numeral x ++ 10 ∷ []) (numeral y ++ 10 ∷ []) space_ends space_ends (ap (λ (xs : List ℕ). drop 18 xs) e) in
+    let blocks = same_numeral x y 10 10 [] [] feed feed zones.after in
+    (zones.number, blocks.number)
+
+-- the outcome that tells a line, a chunk, and a zone with a block
+tells_line : (p : Outcome) → kind_of p ≡ 1 → (n : ℕ) × (w : BadLine) × (p ≡ outcomes.BadScript n w)
+unfolding kind_of
+tells_line (outcomes.BadScript n w) h = (n, w, refl)
+tells_line (outcomes.Ended f) h = absurd (omega arith)
+tells_line outcomes.Usage h = absurd (omega arith)
+tells_line (outcomes.NoVolume volumes.NoSuperBlock) h = absurd (omega arith)
+tells_line (outcomes.NoVolume volumes.Layout) h = absurd (omega arith)
+tells_line (outcomes.NoVolume (volumes.BadMap n)) h = absurd (omega arith)
+tells_line (outcomes.NoVolume (volumes.BadBits n y)) h = absurd (omega arith)
+tells_line outcomes.Source h = absurd (omega arith)
+tells_line outcomes.NotBuilt h = absurd (omega arith)
+
+tells_chunk : (p : Outcome) → kind_of p ≡ 2 → (n : ℕ) × (p ≡ outcomes.NoVolume (volumes.BadMap n))
+unfolding kind_of
+tells_chunk (outcomes.BadScript n w) h = absurd (omega arith)
+tells_chunk (outcomes.Ended f) h = absurd (omega arith)
+tells_chunk outcomes.Usage h = absurd (omega arith)
+tells_chunk (outcomes.NoVolume volumes.NoSuperBlock) h = absurd (omega arith)
+tells_chunk (outcomes.NoVolume volumes.Layout) h = absurd (omega arith)
+tells_chunk (outcomes.NoVolume (volumes.BadMap n)) h = (n, refl)
+tells_chunk (outcomes.NoVolume (volumes.BadBits n y)) h = absurd (omega arith)
+tells_chunk outcomes.Source h = absurd (omega arith)
+tells_chunk outcomes.NotBuilt h = absurd (omega arith)
+
+tells_block : (p : Outcome) → kind_of p ≡ 3 → (n y : ℕ) × (p ≡ outcomes.NoVolume (volumes.BadBits n y))
+unfolding kind_of
+tells_block (outcomes.BadScript n w) h = absurd (omega arith)
+tells_block (outcomes.Ended f) h = absurd (omega arith)
+tells_block outcomes.Usage h = absurd (omega arith)
+tells_block (outcomes.NoVolume volumes.NoSuperBlock) h = absurd (omega arith)
+tells_block (outcomes.NoVolume volumes.Layout) h = absurd (omega arith)
+tells_block (outcomes.NoVolume (volumes.BadMap n)) h = absurd (omega arith)
+tells_block (outcomes.NoVolume (volumes.BadBits n y)) h = (n, y, refl)
+tells_block outcomes.Source h = absurd (omega arith)
+tells_block outcomes.NotBuilt h = absurd (omega arith)
 
 -- the text determines the outcome
 same_outcome : (o p : Outcome) → outcome_text o ≡ outcome_text p → o ≡ p
-same_outcome o p e = by_digit (is_plain o) refl
+unfolding kind_of
+same_outcome o p e = by_kind o refl
   where
-    alike : is_plain o ≡ is_plain p
-    alike = sym (plain-text o) ∙ ap (λ (xs : List ℕ). not (eqb (get_or xs 4 0) 50)) e ∙ plain-text p
+    alike : kind_of o ≡ kind_of p
+    alike = sym (kind-text o) ∙ ap (λ (xs : List ℕ). kind_by (get_or xs 4 0) (get_or xs 13 0)) e ∙ kind-text p
 
-    by_digit : (b : Bool) → is_plain o ≡ b → o ≡ p
-    by_digit true h = sym (outcome-text o h) ∙ ap outcome_of e ∙ outcome-text p (sym alike ∙ h)
-    by_digit false h = told_line o p h (sym alike ∙ h) e
+    plain : kind_of o ≡ 0 → o ≡ p
+    plain h = sym (outcome-text o h) ∙ ap outcome_of e ∙ outcome-text p (sym alike ∙ h)
+
+    by_kind : (q : Outcome) → o ≡ q → o ≡ p
+    by_kind (outcomes.BadScript m v) is =
+        let other = tells_line p (sym alike ∙ ap kind_of is) in
+        is ∙ same_refusal m other.0 v other.1 (sym (ap outcome_text is) ∙ e ∙ ap outcome_text other.2) ∙ sym other.2
+    by_kind (outcomes.NoVolume (volumes.BadMap m)) is =
+        let other = tells_chunk p (sym alike ∙ ap kind_of is) in
+        let chunk = same_chunk m other.0 (sym (ap outcome_text is) ∙ e ∙ ap outcome_text other.1) in
+        is ∙ ap (λ (n : ℕ). outcomes.NoVolume (volumes.BadMap n)) chunk ∙ sym other.1
+    by_kind (outcomes.NoVolume (volumes.BadBits m x)) is =
+        let other = tells_block p (sym alike ∙ ap kind_of is) in
+        let place = same_block m other.0 x other.1 (sym (ap outcome_text is) ∙ e ∙ ap outcome_text other.2) in
+        is ∙ ap₂ (λ (n y : ℕ). outcomes.NoVolume (volumes.BadBits n y)) place.0 place.1 ∙ sym other.2
+    by_kind (outcomes.NoVolume volumes.NoSuperBlock) is = plain (ap kind_of is)
+    by_kind (outcomes.NoVolume volumes.Layout) is = plain (ap kind_of is)
+    by_kind (outcomes.Ended f) is = plain (ap kind_of is)
+    by_kind outcomes.Usage is = plain (ap kind_of is)
+    by_kind outcomes.Source is = plain (ap kind_of is)
+    by_kind outcomes.NotBuilt is = plain (ap kind_of is)
 
 -- and begins with its status
 pub tells_status : (o : Outcome) → (rest : List ℕ) × (outcome_text o ≡ codes "end " ++ numeral (status_of o) ++ 32 ∷ rest)
@@ -272,6 +341,8 @@ tells_status outcomes.Usage = (_, refl)
 tells_status (outcomes.BadScript line why) = (_, refl)
 tells_status (outcomes.NoVolume volumes.NoSuperBlock) = (_, refl)
 tells_status (outcomes.NoVolume volumes.Layout) = (_, refl)
+tells_status (outcomes.NoVolume (volumes.BadMap chunk)) = (_, refl)
+tells_status (outcomes.NoVolume (volumes.BadBits zone block)) = (_, refl)
 tells_status outcomes.Source = (_, refl)
 tells_status outcomes.NotBuilt = (_, refl)
 

@@ -122,6 +122,10 @@ outcome_text (outcomes.BadScript line why) =
     codes "end 2 script " ++ (numeral line ++ 32 ∷ (why_text why ++ 10 ∷ []))
 outcome_text (outcomes.NoVolume volumes.NoSuperBlock) = codes "end 3 volume no-super-block\n"
 outcome_text (outcomes.NoVolume volumes.Layout) = codes "end 3 volume layout\n"
+outcome_text (outcomes.NoVolume (volumes.BadMap chunk)) =
+    codes "end 3 volume map " ++ (numeral chunk ++ 10 ∷ [])
+outcome_text (outcomes.NoVolume (volumes.BadBits zone block)) =
+    codes "end 3 volume bits " ++ (numeral zone ++ 32 ∷ (numeral block ++ 10 ∷ []))
 outcome_text outcomes.Source = codes "end 5 source\n"
 outcome_text outcomes.NotBuilt = codes "end 11 not-built\n"
 

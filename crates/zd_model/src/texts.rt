@@ -1,6 +1,7 @@
 //! What a script is refused for, and how a run ends.
 
 use crate::Ending;
+use zd_base::{ChunkNo, ZoneNo};
 
 /// Why a line is no line of a script. The first that holds is told.
 #[derive(Clone, Copy, Debug, PartialEq, Eq)]
@@ -18,10 +19,15 @@ pub enum BadLine {
 /// Why an image is no volume. The first that holds is told.
 #[derive(Clone, Copy, Debug, PartialEq, Eq)]
 pub enum NoVolume {
-    /// No set of metadata is good.
+    /// No set of metadata is chosen: no super block is good where it has to be.
     NoSuperBlock,
-    /// The layout doesn't fit the disk.
+    /// The layout of the chosen set doesn't fit the disk, or another block could be taken for a super
+    /// block.
     Layout,
+    /// The entry of this chunk is the first that breaks a rule of the map.
+    BadMap { chunk: ChunkNo },
+    /// The bit of this block, counted in its zone, is the first that is set against a rule.
+    BadBits { zone: ZoneNo, block: u32 },
 }
 
 /// How a run ended, as its last line tells it.

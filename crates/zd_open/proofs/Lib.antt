@@ -3,3 +3,5 @@ pub mod RoleLaws
 pub mod FindLaws
 pub mod BadLaws
 pub mod OpenLaws
+pub mod OpenedLaws
+pub mod RefusalLaws

@@ -18,11 +18,11 @@ use Rattle.zd_model.proofs.SameLaws.{same_map}
 use Rattle.zd_model.proofs.FaultLaws.{map_follows}
 use Rattle.zd_model.proofs.BitLaws.{bits_follow}
 use Rattle.zd_sets.specs.Blocks.{blocks_of, AreBlocks}
-use Rattle.zd_sets.specs.Choice.{IsChoice, IsMisplaced, chosen_of}
+use Rattle.zd_sets.specs.Choice.{IsChoice, chosen_of}
 use Rattle.zd_sets.specs.declared.choice.Chosen.{Chosen as Choice}
 use Rattle.zd_open.specs.Bits.{is_bad_pair, pairs_of}
 use Rattle.zd_open.specs.Tables.{bits_in_blocks, entry_in_blocks, entries_in, tables_in}
-use Rattle.zd_open.specs.Examined.{ArePointers, BreaksRule, Explains, FollowsRules, IsExamined}
+use Rattle.zd_open.specs.Examined.{ArePointers, BreaksRule, Explains, FollowsRules, IsExamined, IsPlacedSet}
 use Rattle.zd_open.specs.declared.examining.OpenFault.{OpenFault}
 use Rattle.zd_open.specs.declared.examining.OpenFault.TheVariants.{NoSuperBlock, Layout as BadLayout, BadMap, BadBits, Device, Memory}
 
@@ -85,12 +85,9 @@ module _ (g : Shape) (t : Tables) (p q : ℕ → ℕ) (same : (z : ℕ) → g.co
   pub same_bits : bad_bit g p t ≡ bad_bit g q t
   same_bits = same_rows 0 (zone_count g) (omega arith)
 
--- a choice isn't misplaced
-pub not_misplaced : (image : Image) (c : Choice) → IsChoice c image → IsMisplaced image (chosen_of c) → ⊥
-not_misplaced image c choice (inl misfit) = misfit choice.layout
-not_misplaced image c choice (inr magic) =
-    let k = magic.1.0 in
-    false≢true (sym (choice.no_other_magic magic.0 k magic.1.1 magic.1.2) ∙ magic.1.3)
+-- a choice is a placed set
+pub placed_set : (image : Image) (c : Choice) → IsChoice c image → IsPlacedSet image (chosen_of c)
+placed_set image c choice = record { is_chosen = choice.is_chosen; layout = choice.layout; no_other_magic = choice.no_other_magic }
 
 module _ (g : Shape) (c : Choice) (bytes reported : List ℕ) (image : Image) (same : g ≡ image.geometry) (choice : IsChoice c image) (blocks : AreBlocks image c.zone (used_blocks g c.head.layout) bytes) (pointers : ArePointers image reported) where
   here : AreBlocks image c.zone (used_blocks image.geometry c.head.layout) bytes
@@ -111,8 +108,8 @@ module _ (g : Shape) (c : Choice) (bytes reported : List ℕ) (image : Image) (s
   pub explained : (fault : OpenFault) → BreaksRule g c.head.layout reported bytes fault → Explains fault image
   explained NoSuperBlock breaks = absurd breaks
   explained BadLayout breaks = absurd breaks
-  explained (BadMap chunk) breaks = (chosen_of c, (choice.is_chosen, not_misplaced image c choice), sym map_is ∙ breaks)
-  explained (BadBits zone block) breaks = (chosen_of c, (choice.is_chosen, not_misplaced image c choice), sym map_is ∙ breaks.0, sym bits_is ∙ breaks.1)
+  explained (BadMap chunk) breaks = (chosen_of c, placed_set image c choice, sym map_is ∙ breaks)
+  explained (BadBits zone block) breaks = (chosen_of c, placed_set image c choice, sym map_is ∙ breaks.0, sym bits_is ∙ breaks.1)
   explained Device breaks = absurd breaks
   explained Memory breaks = tt
 

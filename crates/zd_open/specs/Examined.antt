@@ -1,15 +1,16 @@
 -- What an examined disk is found to be.
-use Rattle.std.specs.Prelude.{◌≡◌, ℕ, ◌<◌, ◌≤◌, List, [], length, slice_index, Some, None, Result, Err}
+use Rattle.std.specs.Prelude.{◌≡◌, ℕ, ◌*◌, ◌<◌, ◌≤◌, List, [], length, slice_index, Some, None, IsNone, Result, Err}
 use Rattle.std.specs.Option.{is_some}
 use Rattle.zd_base.specs.Faults.{Rose}
 use Rattle.zd_base.specs.Geometry.{Shape, zone_count}
-use Rattle.zd_base.specs.Layout.{used_blocks}
+use Rattle.zd_base.specs.Layout.{Fits, set_zones, used_blocks}
 use Rattle.zd_base.specs.declared.layout.Layout.{Layout as Sizes}
 use Rattle.zd_model.specs.Faults.{bad_bit, bad_chunk}
 use Rattle.zd_model.specs.Image.{Image as Disk}
+use Rattle.zd_model.specs.Tables.{BitsFollowRules, MapFollowsRules}
 use Rattle.zd_model.specs.Volume.{Chosen as Set, IsWellFormed, chosen, good_super, tables_of}
 use Rattle.zd_sets.specs.Blocks.{AreBlocks}
-use Rattle.zd_sets.specs.Choice.{IsMisplaced, chosen_of}
+use Rattle.zd_sets.specs.Choice.{IsMisplaced, IsPlaced, NoMagicBehind, chosen_of}
 use Rattle.zd_sets.specs.declared.choice.Chosen.{Chosen}
 use Rattle.zd_open.specs.Tables.{entries_in, tables_in}
 use Rattle.zd_open.specs.declared.examining.OpenFault.{OpenFault}
@@ -30,9 +31,12 @@ pub record IsExamined (g : Shape) (c : Chosen) (bytes reported : List ℕ) (disk
   pub blocks : AreBlocks disk c.zone (used_blocks disk.geometry c.head.layout) bytes
   pub pointers : ArePointers disk reported
 
--- a set is chosen where it may be, and its tables are these
-abbrev pub IsPlacedSet : Disk → Set → Type 0
-IsPlacedSet disk c = (chosen disk ≡ Some c) × (IsMisplaced disk c → ⊥)
+-- a set is chosen, its layout fits, and no other super block can be meant
+pub record IsPlacedSet (disk : Disk) (c : Set) : Type 0 where
+  pub is_chosen : chosen disk ≡ Some c
+  pub layout : Fits disk.geometry c.head.layout
+  pub no_other_magic : IsNone (good_super disk 0) →
+      NoMagicBehind disk c.first (set_zones disk.geometry c.head.layout)
 
 -- why an image is no volume, the first rule that it breaks
 abbrev pub Explains : OpenFault → Disk → Type 0
@@ -50,6 +54,16 @@ Explains Memory disk = Unit {0}
 pub record FollowsRules (g : Shape) (l : Sizes) (reported bytes : List ℕ) : Type 0 where
   pub map : bad_chunk g l [] 0 (entries_in l bytes) ≡ None
   pub bits : bad_bit g (slice_index reported) (tables_in g l bytes) ≡ None
+
+-- What holds of an examined volume, whatever the disk tells: both sets stand where the layout puts
+-- them, these are the used blocks of the chosen one, there is a pointer for each zone, and the tables
+-- follow the rules.
+pub record IsUsable (g : Shape) (c : Chosen) (bytes reported : List ℕ) : Type 0 where
+  pub placed : IsPlaced g c
+  pub size : length bytes ≡ 4096 * used_blocks g c.head.layout
+  pub count : length reported ≡ zone_count g
+  pub map : MapFollowsRules g c.head.layout (entries_in c.head.layout bytes)
+  pub bits : BitsFollowRules g (slice_index reported) (tables_in g c.head.layout bytes)
 
 -- which rule they break first, where that is the fault
 abbrev pub BreaksRule : Shape → Sizes → List ℕ → List ℕ → OpenFault → Type 0

@@ -1,4 +1,3 @@
-pub mod TableLaws
 pub mod PieceLaws
 pub mod BlockLaws
 pub mod BaseLaws

@@ -10,7 +10,7 @@ use Rattle.zd_model.specs.Pieces.{pieces_of}
 use Rattle.zd_model.specs.History.{HistoryEntry, IsLegal, IsOrdered, mark_of_entry, mark_of_piece, marks_of_caller}
 use Rattle.zd_model.specs.Report.{output, status_of}
 use Rattle.zd_model.specs.Script.{Refuses}
-use Rattle.zd_model.specs.Volume.{good_super}
+use Rattle.zd_model.specs.Volume.{WellFormed}
 use Rattle.zd_model.specs.declared.requests.Request.{Request}
 use Rattle.zd_model.specs.declared.requests.Ending.TheVariants as endings
 use Rattle.zd_model.specs.declared.texts.Outcome.{Outcome}
@@ -18,10 +18,13 @@ use Rattle.zd_model.specs.declared.texts.Outcome.TheVariants as outcomes
 use Rattle.zd_replay.specs.Words.{is_command}
 use Rattle.zd_script.specs.declared.fault.ScriptFault.{ScriptFault}
 use Rattle.zd_script.specs.declared.fault.ScriptFault.TheVariants as scripts
-use Rattle.zd_replay.specs.declared.opening.OpenFault.{OpenFault}
-use Rattle.zd_replay.specs.declared.opening.OpenFault.TheVariants as opens
+use Rattle.zd_model.specs.declared.texts.NoVolume.{NoVolume}
+use Rattle.zd_model.specs.declared.texts.NoVolume.TheVariants as volumes
+use Rattle.zd_open.specs.Examined.{Explains}
+use Rattle.zd_open.specs.declared.examining.OpenFault.{OpenFault}
+use Rattle.zd_open.specs.declared.examining.OpenFault.TheVariants as opens
 use Rattle.zd_replay.specs.Reads.{IsScriptOfReads, IsOtherScript}
-use Rattle.zd_replay.specs.Opening.{Opens, HasOtherData, RefusesHead, base_of}
+use Rattle.zd_replay.specs.Base.{base_of}
 
 -- the words are a command
 abbrev pub IsCommand : List (List ℕ) → Type 0
@@ -31,17 +34,22 @@ IsCommand words = IsTrue (is_command words)
 abbrev pub IsRunnable : List ℕ → Type 0
 IsRunnable bytes = (plan : List Request) × IsScriptOfReads bytes plan
 
+-- the answer of opening that tells so
+abbrev pub fault_of : NoVolume → OpenFault
+fault_of volumes.NoSuperBlock = opens.NoSuperBlock
+fault_of volumes.Layout = opens.Layout
+fault_of (volumes.BadMap chunk) = opens.BadMap chunk
+fault_of (volumes.BadBits zone block) = opens.BadBits zone block
+
 -- when a run with right words ends so, the first cause first. What the counts of faults say of the
 -- causes `source`, `device` and of want of memory stands in clauses of their own.
 abbrev pub Ends : List ℕ → Image → Outcome → Type 0
 Ends bytes image outcomes.Usage = ⊥
 Ends bytes image outcomes.Source = Unit {0}
 Ends bytes image (outcomes.BadScript line why) = Refuses bytes line why
-Ends bytes image outcomes.NotBuilt =
-    ((plan : List Request) × IsOtherScript bytes plan) ⊎ (IsRunnable bytes × HasOtherData image)
-Ends bytes image (outcomes.NoVolume kind) =
-    IsRunnable bytes × RefusesHead kind image.geometry (good_super image 0)
-Ends bytes image (outcomes.Ended endings.Ok) = IsRunnable bytes × Opens image
+Ends bytes image outcomes.NotBuilt = (plan : List Request) × IsOtherScript bytes plan
+Ends bytes image (outcomes.NoVolume kind) = IsRunnable bytes × Explains (fault_of kind) image
+Ends bytes image (outcomes.Ended endings.Ok) = IsRunnable bytes × WellFormed image
 Ends bytes image (outcomes.Ended (endings.Stopped whys.Device)) = IsRunnable bytes
 Ends bytes image (outcomes.Ended (endings.Stopped whys.Memory)) = Unit {0}
 Ends bytes image (outcomes.Ended (endings.Stopped whys.Generation)) = ⊥
@@ -77,7 +85,11 @@ IsStatus status = IsTrue (list_any (λ s. s == status) (0 ∷ 1 ∷ 2 ∷ 3 ∷ 
 
 -- those that come once the script is read
 abbrev pub IsSessionStatus : ℕ → Type 0
-IsSessionStatus status = IsTrue (list_any (λ s. s == status) (0 ∷ 3 ∷ 4 ∷ 6 ∷ 7 ∷ 11 ∷ []))
+IsSessionStatus status = IsTrue (list_any (λ s. s == status) (0 ∷ 3 ∷ 4 ∷ 6 ∷ 7 ∷ []))
+
+-- those after which no call came to the disk
+abbrev pub IsUntouched : ℕ → Type 0
+IsUntouched status = IsTrue (list_any (λ s. s == status) (1 ∷ 2 ∷ 5 ∷ 11 ∷ []))
 
 -- those of a script that can't be read
 abbrev pub IsRefusalStatus : ℕ → Type 0
@@ -115,18 +127,19 @@ is_fault Fault = true
 abbrev pub fault_count : List HistoryEntry → ℕ
 fault_count history = count_by (λ e. is_fault e.reply) history
 
--- a history over the base of an image, in the order of a plan, with all its pieces where that is said
-pub record IsHistory
-    (image : Image) (plan : List Request) (history : List HistoryEntry) (whole : Type 0) : Type 0 where
-  pub legal : IsLegal (base_of image) history
-  pub ordered : IsOrdered image.geometry.zone_blocks (length (base_of image) / 8) plan history
-  pub all : whole → IsWhole image.geometry.zone_blocks (length (base_of image) / 8) plan history
+-- a history over a base, in the order of a plan cut by zones of z blocks, with all its pieces where
+-- that is said
+pub record IsHistory (base : List (List ℕ)) (z : ℕ) (plan : List Request)
+    (history : List HistoryEntry) (whole : Type 0) : Type 0 where
+  pub legal : IsLegal base history
+  pub ordered : IsOrdered z (length base / 8) plan history
+  pub all : whole → IsWhole z (length base / 8) plan history
 
--- a command, a script that can be run, and a volume that can be opened
+-- a command, a script that can be run, and a volume
 pub record IsRight (words : List (List ℕ)) (bytes : List ℕ) (image : Image) : Type 0 where
   pub command : IsCommand words
   pub script : IsRunnable bytes
-  pub volume : Opens image
+  pub volume : WellFormed image
 
 -- one fault of the disk doesn't license two replies
 pub record AreCounted (history : List HistoryEntry) (before after : ℕ) : Type 0 where
@@ -148,7 +161,8 @@ pub record Reports
   pub planned : IsScriptOfReads bytes plan ⊎ EndsBefore history outcome
   pub cause : Comes words bytes image outcome
   pub answers : HasStatus outcome status
-  pub entries : IsHistory image plan history (outcome ≡ outcomes.Ended endings.Ok)
+  pub entries : IsHistory (base_of image) image.geometry.zone_blocks plan history
+      (outcome ≡ outcomes.Ended endings.Ok)
   pub counted : AreCounted history faults now
   pub device : status ≡ 4 → now < 2 ^ 64 - 1 → fault_count history + faults < now
   pub told : Takes before after (output history outcome) whole
@@ -185,7 +199,9 @@ script_outcome scripts.Memory = no_memory
 
 -- how a run ends whose disk can't be opened
 abbrev pub open_outcome : OpenFault → Outcome
+open_outcome opens.NoSuperBlock = outcomes.NoVolume volumes.NoSuperBlock
+open_outcome opens.Layout = outcomes.NoVolume volumes.Layout
+open_outcome (opens.BadMap chunk) = outcomes.NoVolume (volumes.BadMap chunk)
+open_outcome (opens.BadBits zone block) = outcomes.NoVolume (volumes.BadBits zone block)
 open_outcome opens.Device = outcomes.Ended (endings.Stopped whys.Device)
-open_outcome (opens.NoVolume kind) = outcomes.NoVolume kind
-open_outcome opens.NotBuilt = outcomes.NotBuilt
 open_outcome opens.Memory = no_memory

@@ -9,14 +9,14 @@ ghost use Rattle.zd_report.specs.Fixed.{IsFixed};
 
 use std::alloc::Global;
 use zd_base::{Failed, Status, Why};
-use zd_model::Outcome;
+use zd_model::{NoVolume, Outcome};
 use zd_plain::{Ending, History};
 use zd_ports::Sink;
 use zd_report::{fixed_line, output_text};
 
 /// The exit status of an outcome.
-fn status_of(outcome: Outcome) -> Status
-    ensures { result.0 ≡ status_of outcome }
+fn status_of(outcome: &Outcome) -> Status
+    ensures { result.0 ≡ status_of outcome.now }
 {
     Status(match outcome {
         Outcome::Ended(Ending::Ok) => 0,
@@ -49,8 +49,8 @@ fn write_all<K: Sink>(out: &mut K, bytes: &[u8]) -> Result<(), Failed>
 
 /// The status of an outcome whose output was handed out or not: 6 where that failed and nothing else
 /// was wrong.
-fn status_after(outcome: Outcome, told: bool) -> Status
-    ensures answers { HasStatus outcome result.0 }
+fn status_after(outcome: &Outcome, told: bool) -> Status
+    ensures answers { HasStatus outcome.now result.0 }
     ensures done { result.0 ≡ 0 → told ≡ true }
     ensures sink { result.0 ≡ 6 → told ≡ false }
 {
@@ -61,8 +61,8 @@ fn status_after(outcome: Outcome, told: bool) -> Status
 }
 
 /// Hands out an output, and answers the status.
-fn tell<K: Sink>(out: &mut K, text: &[u8], outcome: Outcome) -> Status
-    ensures answers { HasStatus outcome result.0 }
+fn tell<K: Sink>(out: &mut K, text: &[u8], outcome: &Outcome) -> Status
+    ensures answers { HasStatus outcome.now result.0 }
     ensures taken { WhereTold (K.held out.old) (λ before. Takes before (K.held out.new) text.now
         (IsTaken result.0 (K.faults out.old) (K.faults out.new))) }
     ensures sink { result.0 ≡ 6 → Rose (K.faults out.old) (K.faults out.new) }
@@ -73,27 +73,44 @@ fn tell<K: Sink>(out: &mut K, text: &[u8], outcome: Outcome) -> Status
 }
 
 /// Tells an outcome before which nothing was entered.
-pub fn tell_alone<K: Sink>(out: &mut K, outcome: Outcome) -> Status
-    requires { IsFixed outcome }
+pub fn tell_alone<K: Sink>(out: &mut K, outcome: &Outcome) -> Status
+    requires { IsFixed outcome.now }
     ensures taken { WhereTold (K.held out.old) (λ before. Takes before (K.held out.new)
-        (output [] outcome) (IsTaken result.0 (K.faults out.old) (K.faults out.new))) }
-    ensures answers { HasStatus outcome result.0 }
+        (output [] outcome.now) (IsTaken result.0 (K.faults out.old) (K.faults out.new))) }
+    ensures answers { HasStatus outcome.now result.0 }
     ensures sink { result.0 ≡ 6 → Rose (K.faults out.old) (K.faults out.new) }
     ensures later { K.faults out.old ≤ K.faults out.new }
 {
     tell(out, fixed_line(outcome).as_bytes(), outcome)
 }
 
-/// Tells a history and how its run ended. Where no memory is found for the text, that alone is told.
-pub fn tell_all<K: Sink>(alloc: Global, out: &mut K, history: &History, outcome: Outcome) -> Status
-    ensures told { WhereTold (K.held out.old) (λ before. Tells history.now.items outcome result.0 before
+/// Tells how a run ended before anything was entered. Memory is taken only where the line tells a number.
+pub fn tell_end<K: Sink>(alloc: Global, out: &mut K, outcome: &Outcome) -> Status
+    ensures told { WhereTold (K.held out.old) (λ before. Tells [] outcome.now result.0 before
         (K.held out.new) (IsTaken result.0 (K.faults out.old) (K.faults out.new))) }
-    ensures answers { HasStatus outcome result.0 ⊎ HasStatus no_memory result.0 }
+    ensures answers { HasStatus outcome.now result.0 ⊎ HasStatus no_memory result.0 }
+    ensures sink { result.0 ≡ 6 → Rose (K.faults out.old) (K.faults out.new) }
+    ensures later { K.faults out.old ≤ K.faults out.new }
+{
+    match outcome {
+        Outcome::BadScript { .. }
+        | Outcome::NoVolume(NoVolume::BadMap { .. } | NoVolume::BadBits { .. }) => {
+            tell_all(alloc, out, &History::new(alloc), outcome)
+        }
+        _ => tell_alone(out, outcome),
+    }
+}
+
+/// Tells a history and how its run ended. Where no memory is found for the text, that alone is told.
+pub fn tell_all<K: Sink>(alloc: Global, out: &mut K, history: &History, outcome: &Outcome) -> Status
+    ensures told { WhereTold (K.held out.old) (λ before. Tells history.now.items outcome.now result.0 before
+        (K.held out.new) (IsTaken result.0 (K.faults out.old) (K.faults out.new))) }
+    ensures answers { HasStatus outcome.now result.0 ⊎ HasStatus no_memory result.0 }
     ensures sink { result.0 ≡ 6 → Rose (K.faults out.old) (K.faults out.new) }
     ensures later { K.faults out.old ≤ K.faults out.new }
 {
     match output_text(alloc, history, outcome) {
         Ok(text) => tell(out, &text, outcome),
-        Err(_) => tell_alone(out, Outcome::Ended(Ending::Stopped(Why::Memory))),
+        Err(_) => tell_alone(out, &Outcome::Ended(Ending::Stopped(Why::Memory))),
     }
 }

@@ -47,8 +47,8 @@ pub fn text(alloc: Global, history: &History, ending: &Ending) -> Result<Vec<u8>
 
 /// The lines of the entries, and that of the outcome.
 #[tactic(auto, unfolding(zd_model::specs::Report::output))]
-fn with_outcome(alloc: Global, history: &History, outcome: Outcome) -> Result<Vec<u8>, AllocError>
-    ensures { IfOk result (λ v. v.items ≡ output history.now.items outcome) }
+fn with_outcome(alloc: Global, history: &History, outcome: &Outcome) -> Result<Vec<u8>, AllocError>
+    ensures { IfOk result (λ v. v.items ≡ output history.now.items outcome.now) }
 {
     let mut text = String::new(alloc);
     add_lines(&mut text, history)?;
@@ -60,8 +60,8 @@ fn with_outcome(alloc: Global, history: &History, outcome: Outcome) -> Result<Ve
 /// ended, that is the report.
 ///
 /// `Memory` where none is found for it.
-pub fn output_text(alloc: Global, history: &History, outcome: Outcome) -> Result<Vec<u8>, Memory>
-    ensures { IfOk result (λ v. v.items ≡ output history.now.items outcome) }
+pub fn output_text(alloc: Global, history: &History, outcome: &Outcome) -> Result<Vec<u8>, Memory>
+    ensures { IfOk result (λ v. v.items ≡ output history.now.items outcome.now) }
 {
     with_outcome(alloc, history, outcome).map_err(|_| Memory)
 }

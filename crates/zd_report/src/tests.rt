@@ -9,7 +9,7 @@ ghost use Rattle.zd_model.specs.Report.{HasReply, IsReported};
 use crate::{ending_line, fixed_line, lines, output_text, text};
 use std::alloc::{AllocError, Global};
 use std::test::Fail;
-use zd_base::{BLOCK, Memory, SECTOR, Why};
+use zd_base::{BLOCK, ChunkNo, Memory, SECTOR, Why, ZoneNo};
 use zd_model::{BadLine, Bytes, Ending, Entry, NoVolume, Outcome, Reply, What};
 use zd_plain::{History, pattern};
 
@@ -352,6 +352,17 @@ fn tells_each_end(rt: HostRuntime) -> Result<(), Fail> {
         ),
         (Outcome::NoVolume(NoVolume::Layout), "end 3 volume layout\n"),
         (
+            Outcome::NoVolume(NoVolume::BadMap { chunk: ChunkNo(70) }),
+            "end 3 volume map 70\n",
+        ),
+        (
+            Outcome::NoVolume(NoVolume::BadBits {
+                zone: ZoneNo(7),
+                block: 15,
+            }),
+            "end 3 volume bits 7 15\n",
+        ),
+        (
             Outcome::Ended(Ending::Stopped(Why::Device)),
             "end 4 device\n",
         ),
@@ -382,11 +393,11 @@ fn tells_each_end(rt: HostRuntime) -> Result<(), Fail> {
     ] {
         let history = History::new(rt.alloc());
         assert_eq!(rt;
-            output_text(rt.alloc(), &history, outcome)?.as_slice(),
+            output_text(rt.alloc(), &history, &outcome)?.as_slice(),
             wanted.as_bytes()
         );
     }
     assert_eq!(rt; ending_line(Ending::Ok), "end 0 ok\n");
-    assert_eq!(rt; fixed_line(Outcome::NotBuilt), "end 11 not-built\n");
+    assert_eq!(rt; fixed_line(&Outcome::NotBuilt), "end 11 not-built\n");
     Ok(())
 }

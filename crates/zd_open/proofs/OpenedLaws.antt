@@ -1,0 +1,239 @@
+-- What opening makes of a disk: the same volume, whose tables serve its content.
+use Rattle.std.proofs.Common.{◌≡◌, ◌⊎◌, ℕ, zero, suc, ◌+◌, ◌*◌, ◌/◌, ◌%◌, ◌<◌, ◌≤◌, List, [], ◌++◌, length, take, drop, Some, None, IsNone, Option, refl, sym, ap, ap₂, ◌∙◌, subst, inl, inr, arith}
+use Rattle.std.proofs.Math.Seq.{take-append_seam, drop-append_seam}
+use Rattle.std.proofs.lemmas.Bool.{cases_lt}
+use Rattle.std.specs.Prelude.{IsTrue}
+use Rattle.zd_base.specs.Geometry.{Shape, IsShape, zone_count}
+use Rattle.zd_base.specs.Layout.{Fits, first_data_zone, set_zones, used_blocks}
+use Rattle.zd_model.specs.Faults.{bad_bit, bad_chunk}
+use Rattle.zd_model.specs.Image.{Image, IsImage, Same, run_of, block_at}
+use Rattle.zd_model.specs.Bytes.{IsSector, zero_sector}
+use Rattle.zd_model.specs.Tables.{Tables, Names, entry_of, is_valid, sector_of, served}
+use Rattle.zd_model.specs.Super.{decoded}
+use Rattle.zd_model.specs.Volume.{Chosen, IsWellFormed, chosen, content, good_super, has_magic, if_own, tables_of}
+use Rattle.zd_model.specs.declared.metadata.MapEntry.{MapEntry}
+use Rattle.zd_model.specs.declared.metadata.Super.{Super}
+use Rattle.zd_model.proofs.SameLaws.{chosen_first, chosen_of_same, image_at, same_block, same_map}
+use Rattle.zd_model.proofs.ContentLaws.{content_of_same, in_set, same_back, tables_of_same, well_formed_of_same, where_it_is}
+use Rattle.zd_disk.specs.Told.{Both}
+use Rattle.zd_sets.specs.Blocks.{AreBlocks}
+use Rattle.zd_sets.specs.Choice.{HasMagicBehind, IsChoice, IsMisplaced, IsPlaced, chosen_of}
+use Rattle.zd_sets.specs.Equal.{InSet, IsMadeEqual, OnlyAt}
+use Rattle.zd_sets.specs.declared.choice.Chosen.{Chosen as Choice}
+use Rattle.zd_open.specs.Examined.{ArePointers, Explains, IsExamined, IsPlacedSet}
+use Rattle.zd_open.specs.Opened.{IsKept, IsOpened, IsSameVolume}
+use Rattle.zd_open.specs.Tables.{tables_in}
+use Rattle.zd_open.specs.declared.examining.OpenFault.{OpenFault}
+use Rattle.zd_open.specs.declared.examining.OpenFault.TheVariants.{NoSuperBlock, Layout as BadLayout, BadMap, BadBits, Device, Memory}
+use Rattle.zd_open.proofs.OpenLaws.{same_bits, tables_are}
+
+-- the first of sectors that are joined alike
+first_sector : (x y xs ys : List ℕ) → length x ≡ length y → x ++ xs ≡ y ++ ys → x ≡ y
+first_sector x y xs ys sizes e =
+    sym (take-append_seam x xs) ∙ ap₂ (λ (k : ℕ) (zs : List ℕ). take k zs) sizes e ∙ take-append_seam y ys
+
+-- and the others
+other_sectors : (x y xs ys : List ℕ) → length x ≡ length y → x ++ xs ≡ y ++ ys → xs ≡ ys
+other_sectors x y xs ys sizes e =
+    sym (drop-append_seam x xs) ∙ ap₂ (λ (k : ℕ) (zs : List ℕ). drop k zs) sizes e ∙ drop-append_seam y ys
+
+-- sectors that are joined alike are the same
+pub same_sectors : (s t : ℕ → List ℕ) (a n j : ℕ) → ((i : ℕ) → a ≤ i → i < a + n → length (s i) ≡ length (t i))
+    → run_of s a n ≡ run_of t a n → j < n → s (a + j) ≡ t (a + j)
+same_sectors s t a zero j sizes e low = absurd (omega arith)
+same_sectors s t a (suc n) zero sizes e low =
+    let here : a + 0 ≡ a = omega arith in
+    ap s here ∙ first_sector (s a) (t a) (run_of s (a + 1) n) (run_of t (a + 1) n) (sizes a (omega arith) (omega arith)) e ∙ sym (ap t here)
+same_sectors s t a (suc n) (suc j) sizes e low =
+    let here : a + suc j ≡ a + 1 + j = omega arith in
+    ap s here
+    ∙ same_sectors s t (a + 1) n j (λ i from below. sizes i (omega arith) (omega arith))
+    (other_sectors (s a) (t a) (run_of s (a + 1) n) (run_of t (a + 1) n) (sizes a (omega arith) (omega arith)) e) (omega arith)
+    ∙ sym (ap t here)
+
+-- what was examined
+module _ (g : Shape) (c : Choice) (bytes reported : List ℕ) (image : Image) (e : IsExamined g c bytes reported image) where
+  pub choice_of : IsChoice c image
+  choice_of = record {
+    is_chosen = e.well_formed.is_chosen;
+    layout = e.well_formed.layout;
+    no_other_magic = e.well_formed.no_other_magic;
+    other_good = e.other_good;
+  }
+
+  pub blocks_of_set : AreBlocks image c.zone (used_blocks g c.head.layout) bytes
+  blocks_of_set = subst (λ (h : Shape). AreBlocks image c.zone (used_blocks h c.head.layout) bytes) (sym e.geometry) e.blocks
+
+  pub tables_of_set : tables_in g c.head.layout bytes ≡ tables_of image (chosen_of c)
+  tables_of_set =
+      ap (λ (h : Shape). tables_in h c.head.layout bytes) e.geometry
+      ∙ tables_are image (chosen_of c) bytes e.well_formed.layout e.blocks
+
+-- the reason why an image is no volume is that of an image that holds the same
+module _ (old new : Image) (image : IsImage old) (shape : IsShape old.geometry) (same : Same old new) where
+  same_chosen : chosen new ≡ chosen old
+  same_chosen = chosen_of_same old new image shape same
+
+  same_good : good_super new 0 ≡ good_super old 0
+  same_good =
+      let some = shape.count.some_conventional in
+      let blocks = shape.size.least in
+      ap (λ (g : Shape). good_super (image_at g new.held new.sector) 0) same.geometry
+      ∙ ap (λ (block : List ℕ). if_own (0 * old.geometry.zone_blocks) (decoded block)) (same_block old new image same 0 0 some (omega arith))
+
+  magic_there : (c : Chosen) (k : ℕ) → c.first + k < old.geometry.conv
+      → has_magic (block_at new (c.first + k) 0) ≡ has_magic (block_at old (c.first + k) 0)
+  magic_there c k low =
+      let blocks = shape.size.least in
+      ap has_magic (same_block old new image same (c.first + k) 0 low (omega arith))
+
+  pub misplaced_same : (c : Chosen) → chosen old ≡ Some c → IsMisplaced new c → IsMisplaced old c
+  misplaced_same c is (inl misfit) = inl (λ fits. misfit (subst (λ (g : Shape). Fits g c.head.layout) (sym same.geometry) fits))
+  misplaced_same c is (inr magic) = elim (cases_lt (c.first + k) old.geometry.conv) [
+    | inl low ↦ inr (subst (λ (o : Option Super). IsNone o) same_good magic.0, (k, magic.1.1, omega (arith, magic.1.2, size), sym (magic_there c k low) ∙ magic.1.3))
+    | inr high ↦ inl (λ fits. absurd (let first = chosen_first old c is in let room = fits.conventional_data in omega (arith, magic.1.2, size, room, first)))
+  ]
+    where
+      k : ℕ
+      k = magic.1.0
+
+      size : set_zones new.geometry c.head.layout ≡ set_zones old.geometry c.head.layout
+      size = ap (λ (g : Shape). set_zones g c.head.layout) same.geometry
+
+  pub placed_same : (c : Chosen) → IsPlacedSet new c → IsPlacedSet old c
+  placed_same c placed =
+      let is = sym same_chosen ∙ placed.is_chosen in
+      let fits = subst (λ (g : Shape). Fits g c.head.layout) same.geometry placed.layout in
+      record {
+        is_chosen = is;
+        layout = fits;
+        no_other_magic = λ bad k some low. (
+            let first = chosen_first old c is in
+            let room = fits.conventional_data in
+            let size = ap (λ (g : Shape). set_zones g c.head.layout) same.geometry in
+            sym (magic_there c k (omega (arith, first, room, low)))
+            ∙ placed.no_other_magic (subst (λ (o : Option Super). IsNone o) (sym same_good) bad) k some (omega (arith, low, size)));
+      }
+
+  same_tables : (c : Chosen) → IsPlacedSet old c → tables_of new c ≡ tables_of old c
+  same_tables c placed = tables_of_same old new c image shape same placed.is_chosen placed.layout
+
+  same_map_fault : (c : Chosen) → IsPlacedSet old c
+      → bad_chunk new.geometry c.head.layout [] 0 (tables_of new c).entries ≡ bad_chunk old.geometry c.head.layout [] 0 (tables_of old c).entries
+  same_map_fault c placed = ap₂ (λ (g : Shape) (t : Tables). bad_chunk g c.head.layout [] 0 t.entries) same.geometry (same_tables c placed)
+
+  same_bit_fault : (c : Chosen) → IsPlacedSet old c
+      → bad_bit new.geometry new.held (tables_of new c) ≡ bad_bit old.geometry old.held (tables_of old c)
+  same_bit_fault c placed =
+      ap₂ (λ (g : Shape) (t : Tables). bad_bit g new.held t) same.geometry (same_tables c placed)
+      ∙ same_bits old.geometry (tables_of old c) new.held old.held (λ z above below. (same.zones z).held)
+
+  pub explains_same : (fault : OpenFault) → Explains fault new → Explains fault old
+  explains_same NoSuperBlock none = sym same_chosen ∙ none
+  explains_same BadLayout why =
+      let is = sym same_chosen ∙ why.1 in
+      (why.0, is, misplaced_same why.0 is why.2)
+  explains_same (BadMap chunk) why =
+      let placed = placed_same why.0 why.1 in
+      (why.0, placed, sym (same_map_fault why.0 placed) ∙ why.2)
+  explains_same (BadBits zone block) why =
+      let placed = placed_same why.0 why.1 in
+      (why.0, placed, sym (same_map_fault why.0 placed) ∙ why.2, sym (same_bit_fault why.0 placed) ∙ why.3)
+  explains_same Device why = tt
+  explains_same Memory why = tt
+
+-- no used block of the other set stands in a data zone
+no_data : (g : Shape) (c : Choice) → IsPlaced g c → 0 < g.zone_blocks → (z x : ℕ) → first_data_zone g c.head.layout ≤ z
+    → InSet g c.other 0 (used_blocks g c.head.layout) z x → ⊥
+no_data g c placed some z x behind at =
+    let set = placed.fits.set in
+    let bits = placed.fits.bitmaps in
+    let inside = in_set g.zone_blocks c.head.layout.meta_blocks at.0 some (omega (arith, at.2, set, bits)) in
+    elim placed.places [
+      | inl p ↦ absurd (omega (arith, p.2, at.3, inside, behind))
+      | inr p ↦ absurd (omega (arith, p.2, at.3, inside, behind))
+    ]
+
+-- what changes in used blocks of the other set alone serves the same
+module _ (old new : Image) (c : Choice) (first : IsImage old) (second : IsImage new) (shape : IsShape old.geometry) (placed : IsPlaced old.geometry c) (well : IsWellFormed old (chosen_of c)) (only : OnlyAt (InSet old.geometry c.other 0 (used_blocks old.geometry c.head.layout)) old new) where
+  abbrev pub tables : Tables
+  tables = tables_of old (chosen_of c)
+
+  data_same : (chunk z x j : ℕ) → Names (entry_of tables chunk) z → IsTrue (is_valid tables z x) → x < old.geometry.zone_blocks → j < 8
+      → new.sector z (8 * x + j) ≡ old.sector z (8 * x + j)
+  data_same chunk z x j named valid inside few =
+      let zones = well.map.data_zones chunk z named in
+      let size = shape.size.least in
+      elim (cases_lt z old.geometry.conv) [
+        | inl conv ↦
+            let here = first.conventional z conv in
+            let there = second.conventional z (let count = ap (λ (g : Shape). g.conv) only.geometry in omega (arith, count)) in
+            let blocks = ap (λ (g : Shape). g.zone_blocks) only.geometry in
+            same_sectors (new.sector z) (old.sector z) (8 * x) 8 j
+            (λ i from below. (second.sectors z i (omega (arith, there, blocks))).0 ∙ sym (first.sectors z i (omega (arith, here))).0)
+            (only.elsewhere z x conv inside (no_data old.geometry c placed (omega (arith, size)) z x zones.0)) few
+        | inr seq ↦
+            let below = well.bits.below z x seq zones.1 inside valid in
+            (only.sequential z seq).sectors (8 * x + j) (omega (arith, below))
+      ]
+
+  pub served_same : served old.geometry.zone_blocks tables new.sector ≡ content old (chosen_of c)
+  served_same =
+      let b : ℕ = old.geometry.zone_blocks in
+      let size = shape.size.least in
+      same_map (sector_of b tables new.sector) (sector_of b tables old.sector) 0 (length tables.entries * b * 8) (λ i from low.
+      let x : ℕ = i / 8 % b in
+      let entry : MapEntry = entry_of tables (i / 8 / b) in
+      let inside : x < b = omega (arith, size) in
+      where_it_is (λ u v. u ≡ v) tables x entry.zone (λ z. new.sector z (8 * x + i % 8)) (λ z. old.sector z (8 * x + i % 8)) _ _
+      (λ z named valid. data_same (i / 8 / b) z x (i % 8) (inl named) valid inside (omega arith))
+      (where_it_is (λ u v. u ≡ v) tables x entry.buffer (λ z. new.sector z (8 * x + i % 8)) (λ z. old.sector z (8 * x + i % 8)) zero_sector zero_sector
+      (λ z named valid. data_same (i / 8 / b) z x (i % 8) (inr named) valid inside (omega arith)) refl))
+
+-- a disk that was flushed, examined, and had both sets made equal
+module _ (g : Shape) (c : Choice) (bytes reported : List ℕ) (old middle new : Image) (first : IsImage old) (second : IsImage middle) (third : IsImage new) (shape : IsShape old.geometry) (same : Same old middle) (e : IsExamined g c bytes reported middle) where
+  pub was_well_formed : IsWellFormed old (chosen_of c)
+  was_well_formed =
+      let middle_shape = subst IsShape (sym same.geometry) shape in
+      well_formed_of_same middle old (chosen_of c) second middle_shape (same_back old middle same) e.well_formed
+
+  pub opened : IsPlaced g c → IsMadeEqual g c (used_blocks g c.head.layout) middle new → IsOpened g c bytes reported old new
+  opened placed equal =
+      let middle_shape = subst IsShape (sym same.geometry) shape in
+      let here = subst (λ (h : Shape). IsPlaced h c) e.geometry placed in
+      let only = subst (λ (h : Shape). OnlyAt (InSet h c.other 0 (used_blocks h c.head.layout)) middle new) e.geometry equal.only in
+      let count = ap (λ (h : Shape). zone_count h) only.geometry in
+      let conv = ap (λ (h : Shape). h.conv) only.geometry in
+      record {
+        geometry = e.geometry ∙ sym only.geometry;
+        well_formed = was_well_formed;
+        served =
+            ap₂ (λ (h : Shape) (t : Tables). served h.zone_blocks t new.sector) e.geometry (tables_of_set g c bytes reported middle e)
+            ∙ served_same middle new c second third middle_shape here e.well_formed only
+            ∙ content_of_same old middle (chosen_of c) first shape same was_well_formed;
+        pointers = record {
+          count = e.pointers.count ∙ sym count;
+          conventional = λ z low. e.pointers.conventional z (omega (arith, conv));
+          sequential = λ z above below. e.pointers.sequential z (omega (arith, conv)) (omega (arith, count))
+              ∙ sym (only.sequential z (omega (arith, conv))).held;
+        };
+      }
+
+  pub same_volume : (d : Chosen) → IsWellFormed new d → content new d ≡ content middle (chosen_of c) → IsSameVolume old new
+  same_volume d well is = record {
+    old_set = chosen_of c;
+    new_set = d;
+    was = was_well_formed;
+    is = well;
+    same = is ∙ content_of_same old middle (chosen_of c) first shape same was_well_formed;
+  }
+
+-- one call after another, where the disk tells its zones
+pub both_then : (o m n : Option Image) (P Q R : Image → Image → Type 0)
+    → ((i j k : Image) → o ≡ Some i → m ≡ Some j → n ≡ Some k → P i j → Q j k → R i k) → Both o m P → Both m n Q → Both o n R
+both_then None None None P Q R f h k = tt
+both_then None None (Some c) P Q R f h k = absurd k
+both_then None (Some b) n P Q R f h k = absurd h
+both_then (Some a) None n P Q R f h k = absurd h
+both_then (Some a) (Some b) None P Q R f h k = absurd k
+both_then (Some a) (Some b) (Some c) P Q R f h k = f a b c refl refl refl h k

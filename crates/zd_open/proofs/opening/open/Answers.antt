@@ -1,0 +1,45 @@
+use Rattle.std.proofs.Common.{◌≡◌, Option, Some, sym, ◌∙◌, ap, subst}
+use Rattle.zd_base.specs.Geometry.{IsShape, Shape}
+use Rattle.zd_base.specs.Layout.{used_blocks}
+use Rattle.zd_model.specs.Image.{Image, Same}
+use Rattle.zd_disk.proofs.ToldLaws.{Some-same}
+use Rattle.zd_disk.specs.Told.{Both}
+use Rattle.zd_sets.specs.Equal.{IsMadeEqual}
+use Rattle.zd_sets.proofs.StopLaws.{Both-first}
+use Rattle.zd_open.specs.Opened.{IsOpened}
+use Rattle.zd_open.proofs.OpenedLaws.{blocks_of_set, both_then, choice_of, explains_same, opened}
+use Rattle.zd_open.proofs.opening.open.Goals as goal
+
+pub make_equal-requires-clause-chosen : goal.make_equal-requires-clause-chosen
+make_equal-requires-clause-chosen g c image z =
+    let volume = c.in-Ok-examine.image in
+    choice_of volume.geometry volume.chosen volume.blocks volume.pointers.items image (c.in-Ok-examine.ensures.ok image (sym c.examine.ensures.zones ∙ z))
+
+pub make_equal-requires-clause-blocks : goal.make_equal-requires-clause-blocks
+make_equal-requires-clause-blocks g c image z =
+    let volume = c.in-Ok-examine.image in
+    blocks_of_set volume.geometry volume.chosen volume.blocks volume.pointers.items image (c.in-Ok-examine.ensures.ok image (sym c.examine.ensures.zones ∙ z))
+
+pub returns-in-Err-clause-err : goal.returns-in-Err-clause-err
+returns-in-Err-clause-err g c image z =
+    let d = g.met.D.ZonedDisk in
+    let settled = Both-first (g.D.ZonedDisk.zones c.args.disk.now) (g.D.ZonedDisk.zones c.settle.new.disk) Same image c.settle.ensures.zones z in
+    let told = Some-same _ _ (sym c.in-Ok.ensures.told ∙ d.agrees c.settle.new.disk settled.0 settled.1) in
+    let shape = subst IsShape (told ∙ settled.2.geometry) c.in-Ok.ensures.shape in
+    explains_same image settled.0 (d.shaped c.args.disk.now image z) shape settled.2 c.in-Err.fault (c.in-Err.ensures.err settled.0 settled.1)
+
+pub returns-in-Ok-make_equal-clause-ok : goal.returns-in-Ok-make_equal-clause-ok
+returns-in-Ok-make_equal-clause-ok g c =
+    let d = g.met.D.ZonedDisk in
+    let volume = c.in-Ok-examine.image in
+    both_then (g.D.ZonedDisk.zones c.args.disk.now) (g.D.ZonedDisk.zones c.settle.new.disk) (g.D.ZonedDisk.zones c.make_equal.new.disk) Same
+    (IsMadeEqual volume.geometry volume.chosen (used_blocks volume.geometry volume.chosen.head.layout))
+    (IsOpened volume.geometry volume.chosen volume.blocks volume.pointers.items)
+    (λ old middle new from via to same equal.
+    let told = Some-same _ _ (sym c.in-Ok.ensures.told ∙ d.agrees c.settle.new.disk middle via) in
+    let shape = subst IsShape (told ∙ same.geometry) c.in-Ok.ensures.shape in
+    opened volume.geometry volume.chosen volume.blocks volume.pointers.items old middle new (d.shaped c.args.disk.now old from) (d.shaped c.settle.new.disk middle via)
+    (d.shaped c.make_equal.new.disk new to) shape same (c.in-Ok-examine.ensures.ok middle via) c.in-Ok-examine.ensures.usable.placed equal)
+    c.settle.ensures.zones
+    (subst (λ (o : Option Image). Both o (g.D.ZonedDisk.zones c.make_equal.new.disk) (IsMadeEqual volume.geometry volume.chosen (used_blocks volume.geometry volume.chosen.head.layout)))
+    c.examine.ensures.zones c.in-Ok-make_equal.ensures.ok)

@@ -1,0 +1,44 @@
+-- What opening makes of a disk, and what it leaves of it.
+use Rattle.std.specs.Prelude.{◌≡◌, ◌⊎◌, ℕ, List, Option}
+use Rattle.zd_base.specs.Geometry.{Shape}
+use Rattle.zd_disk.specs.Told.{Both, next_count}
+use Rattle.zd_model.specs.Image.{Image, Same}
+use Rattle.zd_model.specs.Tables.{served}
+use Rattle.zd_model.specs.Volume.{Chosen as Set, IsWellFormed, content}
+use Rattle.zd_sets.specs.Choice.{chosen_of}
+use Rattle.zd_sets.specs.declared.choice.Chosen.{Chosen}
+use Rattle.zd_open.specs.Examined.{ArePointers}
+use Rattle.zd_open.specs.Tables.{tables_in}
+use Rattle.zd_open.specs.declared.examining.OpenFault.{OpenFault}
+use Rattle.zd_open.specs.declared.examining.OpenFault.TheVariants.{Device, Memory}
+
+-- the disk was a volume, and reads so now that it is opened: these tables serve its content from it
+pub record IsOpened (g : Shape) (c : Chosen) (bytes reported : List ℕ) (old new : Image) : Type 0 where
+  pub geometry : g ≡ new.geometry
+  pub well_formed : IsWellFormed old (chosen_of c)
+  pub served : served g.zone_blocks (tables_in g c.head.layout bytes) new.sector
+      ≡ content old (chosen_of c)
+  pub pointers : ArePointers new reported
+
+-- both are well-formed, with the same content
+pub record IsSameVolume (old new : Image) : Type 0 where
+  pub old_set : Set
+  pub new_set : Set
+  pub was : IsWellFormed old old_set
+  pub is : IsWellFormed new new_set
+  pub same : content new new_set ≡ content old old_set
+
+-- the new one holds the same, or it is the same volume
+abbrev pub IsKept : Image → Image → Type 0
+IsKept old new = Same old new ⊎ IsSameVolume old new
+
+-- the disk had one writing call, after which it holds the same
+pub record IsFlushed (before after : Option Image) (calls now : ℕ) : Type 0 where
+  pub holds : Both before after Same
+  pub counted : now ≡ next_count calls
+
+-- the image is no volume
+abbrev pub IsRefusal : OpenFault → Type 0
+IsRefusal Device = ⊥
+IsRefusal Memory = ⊥
+IsRefusal fault = Unit {0}
