@@ -6,7 +6,8 @@ ghost use Rattle.zd_base.specs.Layout.{used_blocks};
 ghost use Rattle.zd_disk.specs.Told.{Both, WhereTold};
 ghost use Rattle.zd_model.specs.Super.{HasSizes};
 ghost use Rattle.zd_sets.specs.Blocks.{AreBlocks};
-ghost use Rattle.zd_sets.specs.Choice.{IsChoice, IsPlaced};
+ghost use Rattle.zd_sets.specs.Choice.{IsChoice, IsPlaced, chosen_of};
+ghost use Rattle.zd_sets.specs.Kept.{KeepsVolume};
 ghost use Rattle.zd_sets.specs.Equal.{EachLeft, HasBlock, HasBlocks, HasSuper, InSet, IsCleared, IsDurable, IsMadeEqual, IsReady, StopsLeaveOnly, head_at};
 
 use crate::read::read_set_block;
@@ -138,7 +139,8 @@ fn put_super<D: ZonedDisk>(disk: &mut D, geometry: &Geometry, chosen: &Chosen) -
 /// the three parts ends with a flush.
 ///
 /// After Ok a stop leaves what the disk reads as. Before, and at any answer, a stop leaves the disk
-/// changed in used blocks of the other set alone.
+/// changed in used blocks of the other set alone. At any answer a volume is one still, with the same
+/// content.
 pub fn make_equal<D: ZonedDisk>(
     disk: &mut D,
     geometry: &Geometry,
@@ -153,6 +155,7 @@ pub fn make_equal<D: ZonedDisk>(
         AreBlocks image chosen.now.zone (used_blocks geometry.now chosen.now.head.layout) blocks.now) }
     ensures ok { OnOk result (Both (D.zones disk.old) (D.zones disk.new)
         (IsMadeEqual geometry.now chosen.now (used_blocks geometry.now chosen.now.head.layout))) }
+    ensures kept { Both (D.zones disk.old) (D.zones disk.new) (KeepsVolume (chosen_of chosen.now)) }
     ensures told { D.told disk.new ≡ D.told disk.old }
     ensures calls { D.calls disk.old ≤ D.calls disk.new }
     ensures left { StopsLeaveOnly (InSet geometry.now chosen.now.other 0 (used_blocks geometry.now chosen.now.head.layout))
