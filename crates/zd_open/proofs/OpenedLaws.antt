@@ -19,6 +19,7 @@ use Rattle.zd_disk.specs.Told.{Both}
 use Rattle.zd_sets.specs.Blocks.{AreBlocks}
 use Rattle.zd_sets.specs.Choice.{HasMagicBehind, IsChoice, IsMisplaced, IsPlaced, chosen_of}
 use Rattle.zd_sets.specs.Equal.{InSet, IsMadeEqual, OnlyAt}
+use Rattle.zd_sets.specs.Kept.{KeepsVolume}
 use Rattle.zd_sets.specs.declared.choice.Chosen.{Chosen as Choice}
 use Rattle.zd_open.specs.Examined.{ArePointers, Explains, IsExamined, IsPlacedSet}
 use Rattle.zd_open.specs.Opened.{IsKept, IsOpened, IsSameVolume}
@@ -219,14 +220,14 @@ module _ (g : Shape) (c : Choice) (bytes reported : List ℕ) (old middle new : 
         };
       }
 
-  pub same_volume : (d : Chosen) → IsWellFormed new d → content new d ≡ content middle (chosen_of c) → IsSameVolume old new
-  same_volume d well is = record {
-    old_set = chosen_of c;
-    new_set = d;
-    was = was_well_formed;
-    is = well;
-    same = is ∙ content_of_same old middle (chosen_of c) first shape same was_well_formed;
-  }
+  pub same_volume : KeepsVolume (chosen_of c) middle new → IsSameVolume old new
+  same_volume keeps =
+      let there = keeps e.well_formed in
+      (chosen_of c, was_well_formed, record {
+        set = there.set;
+        well_formed = there.well_formed;
+        same = there.same ∙ content_of_same old middle (chosen_of c) first shape same was_well_formed;
+      })
 
 -- one call after another, where the disk tells its zones
 pub both_then : (o m n : Option Image) (P Q R : Image → Image → Type 0)

@@ -77,5 +77,5 @@ refused_map chunk image why well =
 
 pub refused_bits : (zone block : ℕ) (image : Image) → Explains (BadBits zone block) image → WellFormed image → ⊥
 refused_bits zone block image why well =
-    none_some (zone, block) (sym (no_bad_bit image.geometry well.0.head.layout image.held (tables_of image well.0) well.1.map well.1.bits)
+    none_some (zone, block) (sym (no_bad_bit image.geometry image.held (tables_of image well.0) well.1.bits)
     ∙ bit_fault image well.0 why.0 (placed_of image well.0 well.1) why.1 ∙ why.3)

@@ -6,6 +6,7 @@ use Rattle.zd_model.specs.Image.{Image, Same}
 use Rattle.zd_model.specs.Tables.{served}
 use Rattle.zd_model.specs.Volume.{Chosen as Set, IsWellFormed, content}
 use Rattle.zd_sets.specs.Choice.{chosen_of}
+use Rattle.zd_sets.specs.Kept.{ServesSame}
 use Rattle.zd_sets.specs.declared.choice.Chosen.{Chosen}
 use Rattle.zd_open.specs.Examined.{ArePointers}
 use Rattle.zd_open.specs.Tables.{tables_in}
@@ -21,12 +22,8 @@ pub record IsOpened (g : Shape) (c : Chosen) (bytes reported : List ℕ) (old ne
   pub pointers : ArePointers new reported
 
 -- both are well-formed, with the same content
-pub record IsSameVolume (old new : Image) : Type 0 where
-  pub old_set : Set
-  pub new_set : Set
-  pub was : IsWellFormed old old_set
-  pub is : IsWellFormed new new_set
-  pub same : content new new_set ≡ content old old_set
+abbrev pub IsSameVolume : Image → Image → Type 0
+IsSameVolume old new = (c : Set) × IsWellFormed old c × ServesSame c old new
 
 -- the new one holds the same, or it is the same volume
 abbrev pub IsKept : Image → Image → Type 0

@@ -1,4 +1,4 @@
-use Rattle.std.proofs.Common.{◌≡◌, Option, Some, sym, ◌∙◌, ap, subst}
+use Rattle.std.proofs.Common.{◌≡◌, Option, Some, sym, ◌∙◌, ap, subst, inr}
 use Rattle.zd_base.specs.Geometry.{IsShape, Shape}
 use Rattle.zd_base.specs.Layout.{used_blocks}
 use Rattle.zd_model.specs.Image.{Image, Same}
@@ -6,8 +6,10 @@ use Rattle.zd_disk.proofs.ToldLaws.{Some-same}
 use Rattle.zd_disk.specs.Told.{Both}
 use Rattle.zd_sets.specs.Equal.{IsMadeEqual}
 use Rattle.zd_sets.proofs.StopLaws.{Both-first}
-use Rattle.zd_open.specs.Opened.{IsOpened}
-use Rattle.zd_open.proofs.OpenedLaws.{blocks_of_set, both_then, choice_of, explains_same, opened}
+use Rattle.zd_sets.specs.Choice.{chosen_of}
+use Rattle.zd_sets.specs.Kept.{KeepsVolume}
+use Rattle.zd_open.specs.Opened.{IsKept, IsOpened}
+use Rattle.zd_open.proofs.OpenedLaws.{blocks_of_set, both_then, choice_of, explains_same, opened, same_volume}
 use Rattle.zd_open.proofs.opening.open.Goals as goal
 
 pub make_equal-requires-clause-chosen : goal.make_equal-requires-clause-chosen
@@ -43,3 +45,18 @@ returns-in-Ok-make_equal-clause-ok g c =
     c.settle.ensures.zones
     (subst (λ (o : Option Image). Both o (g.D.ZonedDisk.zones c.make_equal.new.disk) (IsMadeEqual volume.geometry volume.chosen (used_blocks volume.geometry volume.chosen.head.layout)))
     c.examine.ensures.zones c.in-Ok-make_equal.ensures.ok)
+
+pub returns-in-Ok-make_equal-clause-kept : goal.returns-in-Ok-make_equal-clause-kept
+returns-in-Ok-make_equal-clause-kept g c =
+    let d = g.met.D.ZonedDisk in
+    let volume = c.in-Ok-examine.image in
+    both_then (g.D.ZonedDisk.zones c.args.disk.now) (g.D.ZonedDisk.zones c.settle.new.disk) (g.D.ZonedDisk.zones c.make_equal.new.disk) Same
+    (KeepsVolume (chosen_of volume.chosen)) IsKept
+    (λ old middle new from via to same keeps.
+    let told = Some-same _ _ (sym c.in-Ok.ensures.told ∙ d.agrees c.settle.new.disk middle via) in
+    let shape = subst IsShape (told ∙ same.geometry) c.in-Ok.ensures.shape in
+    inr (same_volume volume.geometry volume.chosen volume.blocks volume.pointers.items old middle new (d.shaped c.args.disk.now old from) (d.shaped c.settle.new.disk middle via)
+    (d.shaped c.make_equal.new.disk new to) shape same (c.in-Ok-examine.ensures.ok middle via) keeps))
+    c.settle.ensures.zones
+    (subst (λ (o : Option Image). Both o (g.D.ZonedDisk.zones c.make_equal.new.disk) (KeepsVolume (chosen_of volume.chosen)))
+    c.examine.ensures.zones c.make_equal.ensures.kept)
