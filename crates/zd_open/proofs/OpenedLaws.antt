@@ -207,6 +207,7 @@ module _ (g : Shape) (c : Choice) (bytes reported : List ℕ) (old middle new : 
       let conv = ap (λ (h : Shape). h.conv) only.geometry in
       record {
         geometry = e.geometry ∙ sym only.geometry;
+        stays = only.geometry ∙ same.geometry;
         well_formed = was_well_formed;
         served =
             ap₂ (λ (h : Shape) (t : Tables). served h.zone_blocks t new.sector) e.geometry (tables_of_set g c bytes reported middle e)

@@ -16,6 +16,7 @@ use Rattle.zd_open.specs.declared.examining.OpenFault.TheVariants.{Device, Memor
 -- the disk was a volume, and reads so now that it is opened: these tables serve its content from it
 pub record IsOpened (g : Shape) (c : Chosen) (bytes reported : List ℕ) (old new : Image) : Type 0 where
   pub geometry : g ≡ new.geometry
+  pub stays : new.geometry ≡ old.geometry
   pub well_formed : IsWellFormed old (chosen_of c)
   pub served : served g.zone_blocks (tables_in g c.head.layout bytes) new.sector
       ≡ content old (chosen_of c)
