@@ -11,7 +11,12 @@ use Rattle.zd_model.specs.declared.requests.Ending.{Ending}
 use Rattle.zd_model.specs.declared.requests.Ending.TheVariants as endings
 use Rattle.zd_model.specs.declared.texts.Outcome.{Outcome}
 use Rattle.zd_model.specs.declared.texts.Outcome.TheVariants as outcomes
-use Rattle.zd_replay.specs.Opening.{Explains, Opens}
+use Rattle.zd_model.specs.Volume.{WellFormed}
+use Rattle.zd_open.specs.Examined.{Explains}
+use Rattle.zd_open.specs.Opened.{IsRefusal}
+use Rattle.zd_open.specs.declared.examining.OpenFault.{OpenFault}
+use Rattle.zd_open.specs.declared.examining.OpenFault.TheVariants as opens
+use Rattle.zd_replay.specs.Base.{base_of}
 use Rattle.zd_replay.specs.Reads.{IsScriptOfReads}
 use Rattle.std.specs.Prelude.{Err}
 use Rattle.zd_model.specs.Script.{Refuses}
@@ -19,8 +24,6 @@ use Rattle.zd_model.specs.declared.texts.BadLine.{BadLine}
 use Rattle.zd_script.specs.Fault.{IfBad}
 use Rattle.zd_script.specs.declared.fault.ScriptFault.{ScriptFault}
 use Rattle.zd_script.specs.declared.fault.ScriptFault.TheVariants as scripts
-use Rattle.zd_replay.specs.declared.opening.OpenFault.{OpenFault}
-use Rattle.zd_replay.specs.declared.opening.OpenFault.TheVariants as opens
 use Rattle.zd_replay.specs.Replay.{Takes, Tells, HasStatus, IsHistory, IsCommand, IsRunnable, Comes, Ends, open_outcome, script_outcome, Reports, AreCounted, no_memory}
 
 -- the text of an outcome alone
@@ -42,11 +45,21 @@ for_want_of_memory history outcome status before after whole answers taken = rec
   taken = taken;
 }
 
+pub told_end : (outcome : Outcome) (status : ℕ) (before : List ℕ) (after : Option (List ℕ)) (whole : Type 0)
+    → HasStatus outcome status → Takes before after (output [] outcome) whole → Tells [] outcome status before after whole
+told_end outcome status before after whole answers taken = record {
+  entries = [];
+  ending = outcome;
+  which = inl (refl, refl);
+  answers = answers;
+  taken = taken;
+}
+
 -- a run before which nothing was entered
-pub nothing : (image : Image) (plan : List Request) (whole : Type 0) → (whole → ⊥) → IsHistory image plan [] whole
-nothing image plan whole none = record {
+pub nothing : (base : List (List ℕ)) (z : ℕ) (plan : List Request) (whole : Type 0) → (whole → ⊥) → IsHistory base z plan [] whole
+nothing base z plan whole none = record {
   legal = record { answers = tt; in_time = tt };
-  ordered = λ caller. (marks_of_caller caller (map mark_of_piece (pieces_of image.geometry.zone_blocks (length _ / 8) plan)), refl);
+  ordered = λ caller. (marks_of_caller caller (map mark_of_piece (pieces_of z (length base / 8) plan)), refl);
   all = λ w. absurd (none w);
 }
 
@@ -60,7 +73,7 @@ none_counted faults now later = record { later = later; rise = λ small. omega a
 -- what was told of a run is its report
 pub reports : (words : List (List ℕ)) (bytes : List ℕ) (image : Image) (plan : List Request) (history : List HistoryEntry) (outcome : Outcome) (status faults now : ℕ) (before : List ℕ) (after : Option (List ℕ)) (whole : Type 0)
     → IsCommand words → IsScriptOfReads bytes plan → Ends bytes image outcome
-    → IsHistory image plan history (outcome ≡ outcomes.Ended endings.Ok) → AreCounted history faults now → (status ≡ 4 → ⊥)
+    → IsHistory (base_of image) image.geometry.zone_blocks plan history (outcome ≡ outcomes.Ended endings.Ok) → AreCounted history faults now → (status ≡ 4 → ⊥)
     → Tells history outcome status before after whole
     → Reports words bytes image status faults now before after whole
 reports words bytes image plan history outcome status faults now before after whole right script ends entries counted no_device t =
@@ -76,7 +89,7 @@ reports words bytes image plan history outcome status faults now before after wh
       answers = t.answers;
       entries = elim t.which [
         | inl same ↦ told_history same.0 same.1
-        | inr same ↦ subst (λ (h : List HistoryEntry). IsHistory image plan h (t.ending ≡ outcomes.Ended endings.Ok)) (sym same.0) (nothing image plan (t.ending ≡ outcomes.Ended endings.Ok) (λ e. not_memory (sym same.1 ∙ e)))
+        | inr same ↦ subst (λ (h : List HistoryEntry). IsHistory (base_of image) image.geometry.zone_blocks plan h (t.ending ≡ outcomes.Ended endings.Ok)) (sym same.0) (nothing (base_of image) image.geometry.zone_blocks plan (t.ending ≡ outcomes.Ended endings.Ok) (λ e. not_memory (sym same.1 ∙ e)))
       ];
       counted = elim t.which [
         | inl same ↦ subst (λ (h : List HistoryEntry). AreCounted h faults now) (sym same.0) counted
@@ -86,9 +99,9 @@ reports words bytes image plan history outcome status faults now before after wh
       told = t.taken;
     }
   where
-    told_history : t.entries ≡ history → t.ending ≡ outcome → IsHistory image plan t.entries (t.ending ≡ outcomes.Ended endings.Ok)
+    told_history : t.entries ≡ history → t.ending ≡ outcome → IsHistory (base_of image) image.geometry.zone_blocks plan t.entries (t.ending ≡ outcomes.Ended endings.Ok)
     told_history same ending =
-        let h = subst (λ (h : List HistoryEntry). IsHistory image plan h (outcome ≡ outcomes.Ended endings.Ok)) (sym same) entries in
+        let h = subst (λ (h : List HistoryEntry). IsHistory (base_of image) image.geometry.zone_blocks plan h (outcome ≡ outcomes.Ended endings.Ok)) (sym same) entries in
         record { legal = h.legal; ordered = h.ordered; all = λ e. h.all (sym ending ∙ e) }
 
 -- the report of a run that ended before anything was entered
@@ -103,7 +116,7 @@ reports_alone words bytes image outcome status faults now before after whole cau
   planned = inr (refl, undone);
   cause = cause;
   answers = answers;
-  entries = nothing image [] (outcome ≡ outcomes.Ended endings.Ok) undone;
+  entries = nothing (base_of image) image.geometry.zone_blocks [] (outcome ≡ outcomes.Ended endings.Ok) undone;
   counted = none_counted faults now later;
   device = λ four small. (let r = rose four in omega arith);
   told = taken;
@@ -116,23 +129,44 @@ not_four outcome status (inr is) other four = (let six = is.0 in omega arith)
 
 -- a disk that can't be opened ends the run so
 pub ends_unopened : (fault : OpenFault) (bytes : List ℕ) (image : Image) → IsRunnable bytes → Explains fault image → Ends bytes image (open_outcome fault)
+ends_unopened opens.NoSuperBlock bytes image script why = (script, why)
+ends_unopened opens.Layout bytes image script why = (script, why)
+ends_unopened (opens.BadMap chunk) bytes image script why = (script, why)
+ends_unopened (opens.BadBits zone block) bytes image script why = (script, why)
 ends_unopened opens.Device bytes image script why = script
-ends_unopened (opens.NoVolume kind) bytes image script why = (script, why)
-ends_unopened opens.NotBuilt bytes image script why = inr (script, why)
 ends_unopened opens.Memory bytes image script why = tt
 
-pub unopened : (fault : OpenFault) → open_outcome fault ≡ outcomes.Ended endings.Ok → ⊥
-unopened opens.Device e = let f = ap status_of e in omega arith
-unopened (opens.NoVolume kind) e = let f = ap status_of e in omega arith
-unopened opens.NotBuilt e = let f = ap status_of e in omega arith
-unopened opens.Memory e = let f = ap status_of e in omega arith
+-- its status: 3 where it is no volume, 4 where it failed, 7 for want of memory
+status_unopened : (fault : OpenFault) → ((status_of (open_outcome fault) ≡ 3) × IsRefusal fault)
+    ⊎ ((status_of (open_outcome fault) ≡ 4) × (fault ≡ opens.Device)) ⊎ (status_of (open_outcome fault) ≡ 7)
+status_unopened opens.NoSuperBlock = inl (refl, tt)
+status_unopened opens.Layout = inl (refl, tt)
+status_unopened (opens.BadMap chunk) = inl (refl, tt)
+status_unopened (opens.BadBits zone block) = inl (refl, tt)
+status_unopened opens.Device = inr (inl (refl, refl))
+status_unopened opens.Memory = inr (inr refl)
 
--- of these the disk's fault alone has status 4
-pub device_fault : (fault : OpenFault) (status : ℕ) → HasStatus (open_outcome fault) status → status ≡ 4 → fault ≡ opens.Device
-device_fault opens.Device status h four = refl
-device_fault (opens.NoVolume kind) status h four = absurd (not_four (open_outcome (opens.NoVolume kind)) status h (λ e. omega arith) four)
-device_fault opens.NotBuilt status h four = absurd (not_four (open_outcome opens.NotBuilt) status h (λ e. omega arith) four)
-device_fault opens.Memory status h four = absurd (not_four (open_outcome opens.Memory) status h (λ e. omega arith) four)
+-- no status is that of a run in which all was done
+module _ (fault : OpenFault) where
+  pub unopened : open_outcome fault ≡ outcomes.Ended endings.Ok → ⊥
+  unopened e =
+      let none = ap status_of e in
+      elim (status_unopened fault) [
+        | inl three ↦ omega (arith, three.0, none)
+        | inr (inl four) ↦ omega (arith, four.0, none)
+        | inr (inr seven) ↦ omega (arith, seven, none)
+      ]
+
+  pub unopened_status : (status : ℕ) → HasStatus (open_outcome fault) status ⊎ HasStatus no_memory status
+      → ((status ≡ 3) × IsRefusal fault) ⊎ ((status ≡ 4) × (fault ≡ opens.Device)) ⊎ (status ≡ 7)
+  unopened_status status (inl (inl is)) = elim (status_unopened fault) [
+    | inl three ↦ inl (is ∙ three.0, three.1)
+    | inr (inl four) ↦ inr (inl (is ∙ four.0, four.1))
+    | inr (inr seven) ↦ inr (inr (is ∙ seven))
+  ]
+  unopened_status status (inl (inr failed)) = absurd (unopened failed.1)
+  unopened_status status (inr (inl is)) = inr (inr is)
+  unopened_status status (inr (inr failed)) = absurd (not_memory failed.1)
 
 -- a script that can't be read ends the run so
 pub ends_unread : (fault : ScriptFault) (bytes : List ℕ) (image : Image) → ((line : ℕ) (why : BadLine) → fault ≡ scripts.Bad line why → Refuses bytes line why) → Ends bytes image (script_outcome fault)
@@ -153,39 +187,36 @@ pub of_line : (T : Type 0) (fault : ScriptFault) (P : ℕ → BadLine → Type 0
 of_line T fault P h line why e = subst (λ (f : ScriptFault). IfBad {T = T} (Err f) P) e h
 
 -- a session ends so
-pub ends_run : (ending : Ending) (bytes : List ℕ) (image : Image) → (ending ≡ endings.Ok) ⊎ (ending ≡ endings.Stopped whys.Memory) → IsRunnable bytes → Opens image → Ends bytes image (outcomes.Ended ending)
+pub ends_run : (ending : Ending) (bytes : List ℕ) (image : Image) → (ending ≡ endings.Ok) ⊎ (ending ≡ endings.Stopped whys.Memory) → IsRunnable bytes → WellFormed image → Ends bytes image (outcomes.Ended ending)
 ends_run ending bytes image (inl ok) script opened = subst (λ (e : Ending). Ends bytes image (outcomes.Ended e)) (sym ok) (script, opened)
 ends_run ending bytes image (inr stopped) script opened = subst (λ (e : Ending). Ends bytes image (outcomes.Ended e)) (sym stopped) tt
 
 ended : (e f : Ending) → outcomes.Ended e ≡ outcomes.Ended f → e ≡ f
 ended e f h = cc
 
-pub history_of : (image : Image) (plan : List Request) (history : List HistoryEntry) (ending : Ending) → IsHistory image plan history (ending ≡ endings.Ok) → IsHistory image plan history (outcomes.Ended ending ≡ outcomes.Ended endings.Ok)
-history_of image plan history ending h = record { legal = h.legal; ordered = h.ordered; all = λ e. h.all (ended ending endings.Ok e) }
+pub history_of : (base : List (List ℕ)) (z : ℕ) (plan : List Request) (history : List HistoryEntry) (ending : Ending) → IsHistory base z plan history (ending ≡ endings.Ok) → IsHistory base z plan history (outcomes.Ended ending ≡ outcomes.Ended endings.Ok)
+history_of base z plan history ending h = record { legal = h.legal; ordered = h.ordered; all = λ e. h.all (ended ending endings.Ok e) }
 
--- a run of reads that was told doesn't end with 4
-pub ran_not_four : (ending : Ending) (history : List HistoryEntry) (status : ℕ) (before : List ℕ) (after : Option (List ℕ)) (whole : Type 0) → (ending ≡ endings.Ok) ⊎ (ending ≡ endings.Stopped whys.Memory)
-    → Tells history (outcomes.Ended ending) status before after whole → status ≡ 4 → ⊥
-ran_not_four ending history status before after whole how t =
-    not_four t.ending status t.answers (λ four. elim t.which [
-      | inl same ↦ elim how [
-        | inl ok ↦ (let s = ap status_of (same.1 ∙ ap outcomes.Ended ok) in omega arith)
-        | inr stopped ↦ (let s = ap status_of (same.1 ∙ ap outcomes.Ended stopped) in omega arith)
-      ]
-      | inr same ↦ (let s = ap status_of same.1 in omega arith)
-    ])
+-- a run of reads that was told ends with none of the two
+pub ran_status : (ending : Ending) (status : ℕ) → (ending ≡ endings.Ok) ⊎ (ending ≡ endings.Stopped whys.Memory)
+    → HasStatus (outcomes.Ended ending) status ⊎ HasStatus no_memory status → (status ≡ 0) ⊎ (status ≡ 6) ⊎ (status ≡ 7)
+ran_status ending status (inl ok) (inl (inl is)) = inl (is ∙ ap (λ (e : Ending). status_of (outcomes.Ended e)) ok)
+ran_status ending status (inr stopped) (inl (inl is)) = inr (inr (is ∙ ap (λ (e : Ending). status_of (outcomes.Ended e)) stopped))
+ran_status ending status how (inl (inr failed)) = inr (inl failed.0)
+ran_status ending status how (inr (inl is)) = inr (inr is)
+ran_status ending status how (inr (inr failed)) = absurd (not_memory failed.1)
 
 pub no_usage : outcomes.Usage ≡ outcomes.Ended endings.Ok → ⊥
 no_usage e = let f = ap status_of e in omega arith
 
--- the report of a run whose script couldn't be read
-pub reports_unread : (words : List (List ℕ)) (bytes : List ℕ) (image : Image) (outcome : Outcome) (status faults now : ℕ) (before : List ℕ) (after : Option (List ℕ)) (whole : Type 0)
-    → IsCommand words → Ends bytes image outcome → (outcome ≡ outcomes.Ended endings.Ok → ⊥) → faults ≤ now → (status ≡ 4 → ⊥)
+-- the report of a run that ended before anything was entered, with a text that may take memory
+pub reports_end : (words : List (List ℕ)) (bytes : List ℕ) (image : Image) (outcome : Outcome) (status faults now : ℕ) (before : List ℕ) (after : Option (List ℕ)) (whole : Type 0)
+    → IsCommand words → Ends bytes image outcome → (outcome ≡ outcomes.Ended endings.Ok → ⊥) → faults ≤ now → (status ≡ 4 → Rose faults now)
     → Tells [] outcome status before after whole
     → Reports words bytes image status faults now before after whole
-reports_unread words bytes image outcome status faults now before after whole right ends undone later no_device t =
+reports_end words bytes image outcome status faults now before after whole right ends undone later rose t =
     let none : t.entries ≡ [] = elim t.which [ inl same ↦ same.0 | inr same ↦ same.0 ] in
     let why : Ends bytes image t.ending = elim t.which [ inl same ↦ subst (Ends bytes image) (sym same.1) ends | inr same ↦ subst (Ends bytes image) (sym same.1) tt ] in
     let open_end : t.ending ≡ outcomes.Ended endings.Ok → ⊥ = elim t.which [ inl same ↦ (λ e. undone (sym same.1 ∙ e)) | inr same ↦ (λ e. not_memory (sym same.1 ∙ e)) ] in
-    reports_alone words bytes image t.ending status faults now before after whole (inr (right, why)) open_end later (λ four. absurd (no_device four)) t.answers
+    reports_alone words bytes image t.ending status faults now before after whole (inr (right, why)) open_end later rose t.answers
     (subst (λ (h : List HistoryEntry). Takes before after (output h t.ending) whole) none t.taken)

@@ -5,7 +5,7 @@ use Rattle.zd_model.specs.declared.texts.Outcome.TheVariants as outcomes
 use Rattle.zd_model.specs.declared.requests.Request.{Request}
 use Rattle.zd_replay.specs.Reads.{IsScriptOfReads, IsOtherScript}
 use Rattle.zd_replay.specs.Replay.{IsCommand, IsSessionStatus, IsRefusalStatus, script_outcome}
-use Rattle.zd_replay.proofs.ReportLaws.{reports_alone, reports_unread, ends_unread, unread, unbuilt, no_usage, not_four, of_line}
+use Rattle.zd_replay.proofs.ReportLaws.{reports_alone, reports_end, ends_unread, unread, unbuilt, no_usage, not_four, of_line}
 use Rattle.zd_replay.proofs.CompleteLaws.{complete, other_or_reads}
 use Rattle.zd_replay.proofs.alone.replay_alone.Goals as goal
 
@@ -19,8 +19,8 @@ returns-in-Err-clause-report g c image bytes before z left held =
     let right : IsCommand (map string_bytes c.args.words.now) = sym c.is_command.ensures ∙ c.if-not-is_command.false in
     let fault = c.in-Err.fault in
     let ends = ends_unread fault bytes image (λ line why e. of_line (List Request) fault _ c.in-Err.ensures.bad line why e bytes left) in
-    reports_unread (map string_bytes c.args.words.now) bytes image (script_outcome fault) c.refuse.result.0 _ _ before (g.K.Sink.held c.refuse.new.out) _
-    right ends (unread fault) (omega arith) (λ four. false≢true (subst IsRefusalStatus four c.refuse.ensures.statuses)) (c.refuse.ensures.told before held)
+    reports_end (map string_bytes c.args.words.now) bytes image (script_outcome fault) c.refuse.result.0 _ _ before (g.K.Sink.held c.refuse.new.out) _
+    right ends (unread fault) (omega arith) (λ four. absurd (false≢true (subst IsRefusalStatus four c.refuse.ensures.statuses))) (c.refuse.ensures.told before held)
 
 pub returns-then-not-has_reads_alone-clause-report : goal.returns-then-not-has_reads_alone-clause-report
 returns-then-not-has_reads_alone-clause-report g c image bytes before z left held =
@@ -28,7 +28,7 @@ returns-then-not-has_reads_alone-clause-report g c image bytes before z left hel
     let right : IsCommand (map string_bytes c.args.words.now) = sym c.is_command.ensures ∙ c.if-not-is_command.false in
     let others : IsOtherScript bytes c.in-Ok.plan = record { script = c.in-Ok.ensures.ok bytes left; others = λ h. false≢true (sym c.if-not-has_reads_alone.true ∙ c.has_reads_alone.ensures.1 h) } in
     reports_alone (map string_bytes c.args.words.now) bytes image outcomes.NotBuilt told.result.0 _ _ before (g.K.Sink.held told.new.out) _
-    (inr (right, inl (c.in-Ok.plan, others))) unbuilt (omega arith) (λ four. absurd (not_four outcomes.NotBuilt told.result.0 told.ensures.answers (λ e. omega arith) four)) told.ensures.answers (told.ensures.taken before held)
+    (inr (right, (c.in-Ok.plan, others))) unbuilt (omega arith) (λ four. absurd (not_four outcomes.NotBuilt told.result.0 told.ensures.answers (λ e. omega arith) four)) told.ensures.answers (told.ensures.taken before held)
 
 pub returns-clause-complete : goal.returns-clause-complete
 returns-clause-complete g c image bytes before z left held right no_device no_source no_sink =

@@ -1,32 +1,97 @@
-use Rattle.std.proofs.Common.{Err, ◌∙◌, ap, sym, subst, inr}
+use Rattle.std.proofs.Common.{◌≡◌, ◌⊎◌, ℕ, List, refl, Err, ◌∙◌, ap, ap₂, sym, subst, inl, inr, arith}
+use Rattle.std.specs.List.{list_any}
+use Rattle.zd_base.specs.Geometry.{Shape}
+use Rattle.zd_disk.proofs.ToldLaws.{Both-new}
+use Rattle.zd_model.specs.Image.{Image}
+use Rattle.zd_model.specs.declared.requests.Ending.TheVariants as endings
 use Rattle.zd_model.specs.declared.texts.Outcome.{Outcome}
 use Rattle.zd_model.specs.declared.texts.Outcome.TheVariants as outcomes
-use Rattle.zd_replay.specs.Replay.{Ends, HasStatus}
-use Rattle.zd_replay.proofs.ReportLaws.{reports, reports_alone, ends_unopened, unopened, ends_run, history_of, device_fault, ran_not_four}
+use Rattle.zd_open.specs.Examined.{ArePointers}
+use Rattle.zd_open.specs.Opened.{IsOpened}
+use Rattle.zd_sets.proofs.StopLaws.{Both-first}
+use Rattle.zd_replay.specs.Base.{base_of, served_by}
+use Rattle.zd_replay.specs.Replay.{Ends, HasStatus, IsHistory, IsSessionStatus, Tells, no_memory}
+use Rattle.zd_replay.proofs.BaseLaws.{base_is}
+use Rattle.zd_replay.proofs.ReportLaws.{reports, reports_end, ends_unopened, unopened, unopened_status, ends_run, history_of, ran_status}
 use Rattle.zd_replay.proofs.RunLaws.{counted_later}
-use Rattle.zd_replay.proofs.TableLaws.{readable}
 use Rattle.zd_replay.proofs.alone.session.Goals as goal
+
+pub returns-in-Err-clause-statuses : goal.returns-in-Err-clause-statuses
+returns-in-Err-clause-statuses g c =
+    elim (unopened_status c.in-Err.fault c.tell_end.result.0 (subst (λ (o : Outcome). HasStatus o c.tell_end.result.0 ⊎ HasStatus no_memory c.tell_end.result.0) c.open_outcome.ensures c.tell_end.ensures.answers)) [
+      | inl three ↦ rw three.0 refl
+      | inr (inl four) ↦ rw four.0 refl
+      | inr (inr seven) ↦ rw seven refl
+    ]
+
+pub returns-in-Err-clause-device : goal.returns-in-Err-clause-device
+returns-in-Err-clause-device g c is =
+    elim (unopened_status c.in-Err.fault c.tell_end.result.0 (subst (λ (o : Outcome). HasStatus o c.tell_end.result.0 ⊎ HasStatus no_memory c.tell_end.result.0) c.open_outcome.ensures c.tell_end.ensures.answers)) [
+      | inl three ↦ absurd (omega (arith, is, three.0))
+      | inr (inl four) ↦ c.open.ensures.cause.device (c.in-Err.is ∙ ap Err four.1)
+      | inr (inr seven) ↦ absurd (omega (arith, is, seven))
+    ]
+
+pub returns-in-Err-clause-refused : goal.returns-in-Err-clause-refused
+returns-in-Err-clause-refused g c is =
+    elim (unopened_status c.in-Err.fault c.tell_end.result.0 (subst (λ (o : Outcome). HasStatus o c.tell_end.result.0 ⊎ HasStatus no_memory c.tell_end.result.0) c.open_outcome.ensures c.tell_end.ensures.answers)) [
+      | inl three ↦ c.in-Err.ensures.refused three.1
+      | inr (inl four) ↦ absurd (omega (arith, is, four.0))
+      | inr (inr seven) ↦ absurd (omega (arith, is, seven))
+    ]
 
 pub returns-in-Err-clause-report : goal.returns-in-Err-clause-report
 returns-in-Err-clause-report g c words bytes right script image z before held =
     let is = c.open_outcome.ensures in
     let ends = subst (Ends bytes image) (sym is) (ends_unopened c.in-Err.fault bytes image (c.args.plan.now, script) (c.in-Err.ensures.err image z)) in
-    reports_alone words bytes image c.open_outcome.result c.tell_alone.result.0 _ _ before
-    (g.K.Sink.held c.tell_alone.new.out) _
-    (inr (right, ends)) (λ e. unopened c.in-Err.fault (sym is ∙ e)) c.open.ensures.cause.later
-    (λ four. c.open.ensures.cause.device (c.in-Err.is ∙ ap Err (device_fault c.in-Err.fault c.tell_alone.result.0 (subst (λ (o : Outcome). HasStatus o c.tell_alone.result.0) is c.tell_alone.ensures.answers) four)))
-    c.tell_alone.ensures.answers (c.tell_alone.ensures.taken before held)
+    reports_end words bytes image c.open_outcome.result c.tell_end.result.0 _ _ before
+    (g.K.Sink.held c.tell_end.new.out) _
+    right ends (λ e. unopened c.in-Err.fault (sym is ∙ e)) c.open.ensures.cause.later
+    (returns-in-Err-clause-device g c)
+    (c.tell_end.ensures.told before held)
+
+pub returns-clause-statuses : goal.returns-clause-statuses
+returns-clause-statuses g c =
+    elim (ran_status c.run_plan-history.result.1 c.tell_all.result.0 c.run_plan-history.ensures.ending c.tell_all.ensures.answers) [
+      | inl done ↦ rw done refl
+      | inr (inl six) ↦ rw six refl
+      | inr (inr seven) ↦ rw seven refl
+    ]
+
+pub returns-clause-device : goal.returns-clause-device
+returns-clause-device g c is =
+    elim (ran_status c.run_plan-history.result.1 c.tell_all.result.0 c.run_plan-history.ensures.ending c.tell_all.ensures.answers) [
+      | inl done ↦ absurd (omega (arith, is, done))
+      | inr (inl six) ↦ absurd (omega (arith, is, six))
+      | inr (inr seven) ↦ absurd (omega (arith, is, seven))
+    ]
+
+pub returns-clause-refused : goal.returns-clause-refused
+returns-clause-refused g c is =
+    elim (ran_status c.run_plan-history.result.1 c.tell_all.result.0 c.run_plan-history.ensures.ending c.tell_all.ensures.answers) [
+      | inl done ↦ absurd (omega (arith, is, done))
+      | inr (inl six) ↦ absurd (omega (arith, is, six))
+      | inr (inr seven) ↦ absurd (omega (arith, is, seven))
+    ]
 
 pub returns-clause-report : goal.returns-clause-report
 returns-clause-report g c words bytes right script image z before held =
-    let opened = c.in-Ok.ensures.ok image z in
-    let there = c.open.ensures.zones ∙ z in
+    let volume = c.in-Ok.volume in
+    let there = Both-first _ _ (IsOpened volume.geometry volume.chosen volume.blocks volume.pointers.items) image c.in-Ok.ensures.ok z in
+    let opened = there.2 in
     let ending = c.run_plan-history.result.1 in
     let history = c.run_plan-history.result.0.items in
     let ran = c.run_plan-history.ensures in
+    let size = ap (λ (g : Shape). g.zone_blocks) (opened.geometry ∙ opened.stays) in
+    let entries = subst (λ (base : List (List ℕ)). IsHistory base image.geometry.zone_blocks c.args.plan.now history (ending ≡ endings.Ok)) (base_is volume image there.0 opened)
+    (subst (λ (n : ℕ). IsHistory (served_by volume there.0) n c.args.plan.now history (ending ≡ endings.Ok)) size (ran.entries there.0 there.1)) in
     reports words bytes image c.args.plan.now history (outcomes.Ended ending) c.tell_all.result.0 _ _ before
     (g.K.Sink.held c.tell_all.new.out) _
     right script
-    (ends_run ending bytes image ran.ending (c.args.plan.now, script) (c.in-Ok.opened.head, opened.set, readable c.in-Ok.opened.geometry c.in-Ok.opened.head c.in-Ok.opened.blocks image opened c.in-Ok.ensures.usable))
-    (history_of image c.args.plan.now history ending (ran.entries image there opened)) (counted_later history _ _ _ c.open.ensures.cause.later ran.counted)
-    (ran_not_four ending history c.tell_all.result.0 before _ _ ran.ending (c.tell_all.ensures.told before held)) (c.tell_all.ensures.told before held)
+    (ends_run ending bytes image ran.ending (c.args.plan.now, script) (_, opened.well_formed))
+    (history_of (base_of image) image.geometry.zone_blocks c.args.plan.now history ending entries) (counted_later history _ _ _ c.open.ensures.cause.later ran.counted)
+    (λ four. elim (ran_status ending c.tell_all.result.0 ran.ending c.tell_all.ensures.answers) [
+      | inl done ↦ omega (arith, four, done)
+      | inr (inl six) ↦ omega (arith, four, six)
+      | inr (inr seven) ↦ omega (arith, four, seven)
+    ]) (c.tell_all.ensures.told before held)
