@@ -1,6 +1,6 @@
 -- Which set is chosen of an image that changed in used blocks of the other set alone.
 use Rattle.std.proofs.Common.{◌≡◌, ◌⊎◌, ℕ, ◌+◌, ◌-◌, ◌*◌, ◌/◌, ◌%◌, ◌<◌, ◌≤◌, ◌==◌, Bool, true, false, ◌&&◌, cond, nat_lt, List, Option, Some, None, IsNone, is_some, inl, inr, refl, sym, ap, ap₂, ◌∙◌, subst, arith, option_and_then, option_map}
-use Rattle.std.proofs.Math.Nat.{mul-div_right, mul-mod_right}
+use Rattle.std.proofs.Math.Nat.{mul-div_right, mul-le-mul_left, mul-mod_right}
 use Rattle.std.proofs.lemmas.Bool.{cases_lt, le-ltb}
 use Rattle.std.specs.Option.{option_map_or}
 use Rattle.zd_base.specs.Geometry.{Shape}
@@ -118,6 +118,14 @@ module _ (image : Image) (n : ℕ) where
       ∙ ap (λ (o : Option ℕ). option_and_then (λ m. option_map (second_set m) (second_super image m)) o) is.magic
       ∙ ap (λ (o : Option Super). option_map (second_set n) o) second
 
+-- a set by its numbers
+abbrev pub set_of : ℕ → ℕ → ℕ → Super → Chosen
+set_of set first other head = record { set = set; first = first; other = other; head = head }
+
+none_is : {X : Type 0} (o : Option X) → is_some o ≡ false → o ≡ None
+none_is None e = refl
+none_is (Some x) e = cc
+
 -- a second super block is a good one
 good_second : (image : Image) (n : ℕ) (t : Super) → second_super image n ≡ Some t → good_super image n ≡ Some t
 good_second image n t e = by_super (good_super image n) e
@@ -172,7 +180,13 @@ module _ (old : Image) (held : ℕ → ℕ) (sector : ℕ → ℕ → List ℕ) 
       (omega (arith, some))
 
   front_still : block_at now c.zone 0 ≡ block_at old c.zone 0
-  front_still = ?
+  front_still =
+      let zone = placed.zone in
+      let none = in_zones old.geometry c.head.layout placed.fits some 0 (omega arith) in
+      elim placed.places [
+        | inl p ↦ still c.zone 0 zone some (λ above below. absurd (omega (arith, p.1, p.2, none, above)))
+        | inr p ↦ still c.zone 0 zone some (λ above below. absurd (omega (arith, p.1, p.2, below)))
+      ]
 
   same_good : (z : ℕ) → block_at now z 0 ≡ block_at old z 0 → good_super now z ≡ good_super old z
   same_good z block = ap (λ (bytes : List ℕ). if_own (z * old.geometry.zone_blocks) (decoded bytes)) block
@@ -184,15 +198,124 @@ module _ (old : Image) (held : ℕ → ℕ) (sector : ℕ → ℕ → List ℕ) 
   no_magic : IsNone (good_super old 0) → NoMagicBehind now c.zone size
   no_magic bad k above below = ap has_magic (zone_still k 0 below some) ∙ is.no_other_magic bad k above below
 
+  -- the first block of a zone behind the first of a set
+  front_of : (j : Image) → j.geometry ≡ old.geometry → (first z y : ℕ) → first + z ≡ y
+      → set_block j first (old.geometry.zone_blocks * z) ≡ block_at j y 0
+  front_of j geometry first z y e =
+      let b = old.geometry.zone_blocks in
+      ap (λ (g : Shape). block_at j (first + b * z / g.zone_blocks) (b * z % g.zone_blocks)) geometry
+      ∙ ap₂ (λ (q r : ℕ). block_at j q r) (ap (λ (q : ℕ). first + q) (mul-div_right z some) ∙ e) (mul-mod_right b z)
+
+  -- set 0 is the other one, and begins at zone 0: no zone of it behind that has the magic bytes, where none had them
+  unmarked : c.zone ≡ size → c.other ≡ 0 → IsNone (good_super old 0) → (z : ℕ) → 1 ≤ z → z < size
+      → has_magic (block_at old z 0) ≡ false → has_magic (block_at now z 0) ≡ false
+  unmarked first other bad z above below was =
+      let b = old.geometry.zone_blocks in
+      let quotient : b * z / b ≡ z = mul-div_right z some in
+      let rest : b * z % b ≡ 0 = mul-mod_right b z in
+      let least : b * 1 ≤ b * z = mul-le-mul_left b above in
+      let zone : c.other + z ≡ z = omega (arith, other) in
+      let room = placed.zone in
+      elim (cases_lt (b * z) end) [
+        | inl low ↦ sym (ap has_magic (front_of now refl c.other z z zone))
+            ∙ elim (way.marks (b * z) (omega (arith, least, some)) low) [
+              | inl same ↦ same ∙ ap has_magic (front_of old refl c.other z z zone) ∙ was
+              | inr same ↦ same ∙ ap has_magic (front_of old refl c.zone z (c.zone + z) refl) ∙ is.no_other_magic bad z above below
+            ]
+        | inr high ↦ ap has_magic (way.only.elsewhere z 0 (omega (arith, room, first, below)) some (λ at.
+            let one = same_place b at.0 (b * z) some (omega (arith, at.3, other, quotient)) (sym at.4 ∙ sym rest) in
+            absurd (omega (arith, at.2, one, high))))
+            ∙ was
+      ]
+
   -- the scan finds set 1 still
   magic_still : c.zone ≡ size → c.other ≡ 0 → good_super old 0 ≡ None → zone_with_magic old ≡ Some size → zone_with_magic now ≡ Some size
-  magic_still first other bad magic = ?
+  magic_still first other bad magic =
+      let found = magic_is old size magic in
+      let room = placed.zone in
+      first_magic now size found.from (omega (arith, room, first))
+      (λ z above below. unmarked first other (ap (λ (o : Option Super). is_some o) bad) z above below (found.unmet z above below))
+      (ap has_magic (subst (λ (z : ℕ). block_at now z 0 ≡ block_at old z 0) first front_still) ∙ found.met)
+
+  -- the chosen set by its three numbers
+  named_set : (set first other : ℕ) → c.set ≡ set → c.zone ≡ first → c.other ≡ other → set_of set first other c.head ≡ chosen_of c
+  named_set set first other a b e =
+      ap (λ (n : ℕ). set_of n first other c.head) (sym a)
+      ∙ ap (λ (n : ℕ). set_of c.set n other c.head) (sym b)
+      ∙ ap (λ (n : ℕ). set_of c.set c.zone n c.head) (sym e)
+
+  good_there : {z : ℕ} → c.zone ≡ z → good_super now z ≡ good_super old z
+  good_there e = subst (λ (z : ℕ). good_super now z ≡ good_super old z) e (same_good c.zone front_still)
+
+  -- where set 0 is chosen, the second set has no greater generation now
+  tie_0 : c.other ≡ size → IsSet0 old (chosen_of c) → (t : Super) → second_super now size ≡ Some t
+      → nat_lt c.head.generation t.generation ≡ false
+  tie_0 other was t second = elim way.super [
+    | inl same ↦ was.tie t
+        (sym (same_second size (same_good size (subst (λ (z : ℕ). block_at now z 0 ≡ block_at old z 0) other same))) ∙ second)
+    | inr (inl bad) ↦ (let none : None ≡ Some t = sym bad.1 ∙ ap (λ z. good_super now z) other ∙ good_second now size t second in cc)
+    | inr (inr put) ↦
+        (let one : Some (head_at old.geometry c.other c.head) ≡ Some t = sym put.0 ∙ ap (λ z. good_super now z) other ∙ good_second now size t second in
+        subst (λ (u : Super). nat_lt c.head.generation u.generation ≡ false) (one_is (head_at old.geometry c.other c.head) t one)
+        (le-ltb c.head.generation c.head.generation (omega arith)))
+  ]
 
   pub choice_set_0 : c.set ≡ 0 → c.zone ≡ 0 → c.other ≡ size → IsSet0 old (chosen_of c) → IsNewChoice c end old now (chosen_of c)
-  choice_set_0 set first other was = ?
+  choice_set_0 set first other was =
+      let good = good_there first ∙ was.good in
+      record {
+        is_chosen = first_chosen now size c.head good refl (tie_0 other was)
+            ∙ ap (λ (d : Chosen). Some d) (named_set 0 0 size set first other);
+        layout = refl;
+        blocks = λ k above below. blocks_still k below;
+        magic = λ bad. absurd (let f : true ≡ false = sym (ap (λ (o : Option Super). is_some o) good) ∙ bad in cc);
+      }
+
+  second_still : c.zone ≡ size → IsSet1 old (chosen_of c) → second_super now size ≡ Some c.head
+  second_still first was =
+      same_second size (good_there first)
+      ∙ subst (λ (z : ℕ). second_super old z ≡ Some c.head) first was.good
+
+  -- set 1 stays chosen where the first super block is no better
+  stays_1 : c.set ≡ 1 → c.zone ≡ size → c.other ≡ 0 → IsSet1 old (chosen_of c) → good_super now 0 ≡ good_super old 0
+      → IsNewChoice c end old now (chosen_of c)
+  stays_1 set first other was same =
+      let second = second_still first was in
+      record {
+        is_chosen = elim was.first [
+          | inl s ↦ second_chosen now size s.0 c.head (record { good = same ∙ s.1.good; takes = s.1.takes ∙ first; older = s.1.older }) second
+          | inr scan ↦ found_chosen now size c.head
+              (record { bad = same ∙ scan.bad; magic = magic_still first other scan.bad (scan.magic ∙ ap (λ (n : ℕ). Some n) first) }) second
+        ] ∙ ap (λ (d : Chosen). Some d) (named_set 1 size 0 set first other);
+        layout = refl;
+        blocks = λ k above below. blocks_still k below;
+        magic = λ bad. no_magic (subst (λ (o : Option Super). IsNone o) same bad);
+      }
+
+  -- set 0 is chosen once it has the super block of set 1
+  turns_1 : c.zone ≡ size → c.other ≡ 0 → IsSet1 old (chosen_of c)
+      → good_super now c.other ≡ Some (head_at old.geometry c.other c.head) → HasItsBlocks c end old now
+      → IsNewChoice c end old now (first_set size (head_at old.geometry c.other c.head))
+  turns_1 first other was put each =
+      let second = second_still first was in
+      let good = sym (ap (λ z. good_super now z) other) ∙ put in
+      record {
+        is_chosen = first_chosen now size (head_at old.geometry c.other c.head) good refl (λ t some.
+            subst (λ (u : Super). nat_lt c.head.generation u.generation ≡ false) (one_is c.head t (sym second ∙ some))
+            (le-ltb c.head.generation c.head.generation (omega arith)));
+        layout = refl;
+        blocks = λ k above below. subst (λ (z : ℕ). set_block now z k ≡ set_block old c.zone k) other (each k above below);
+        magic = λ bad. absurd (let f : true ≡ false = sym (ap (λ (o : Option Super). is_some o) good) ∙ bad in cc);
+      }
 
   pub choice_set_1 : c.set ≡ 1 → c.zone ≡ size → c.other ≡ 0 → IsSet1 old (chosen_of c) → (d : Chosen) × IsNewChoice c end old now d
-  choice_set_1 set first other was = ?
+  choice_set_1 set first other was = elim way.super [
+    | inl same ↦ (chosen_of c, stays_1 set first other was (same_good 0 (subst (λ (z : ℕ). block_at now z 0 ≡ block_at old z 0) other same)))
+    | inr (inl bad) ↦ (chosen_of c, stays_1 set first other was
+        (sym (ap (λ z. good_super now z) other) ∙ bad.1
+        ∙ sym (none_is (good_super old 0) (ap (λ (o : Option Super). is_some o) (ap (λ z. good_super old z) (sym other)) ∙ sym is.other_good ∙ bad.0))))
+    | inr (inr put) ↦ (first_set size (head_at old.geometry c.other c.head), turns_1 first other was put.0 put.1)
+  ]
 
   pub new_choice : (d : Chosen) × IsNewChoice c end old now d
   new_choice = elim placed.places [

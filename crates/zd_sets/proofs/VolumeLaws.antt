@@ -99,10 +99,20 @@ module _ (old : Image) (held : ℕ → ℕ) (sector : ℕ → ℕ → List ℕ) 
     (same : (k : ℕ) → 1 ≤ k → k < used_blocks old.geometry c.head.layout
     → set_block (image_at old.geometry held sector) d.first k ≡ set_block old c.first k) where
   same_entry : (chunk : ℕ) → chunk < c.head.layout.chunks → entry_in (image_at old.geometry held sector) d chunk ≡ entry_in old c chunk
-  same_entry chunk low = ?
+  same_entry chunk low =
+      let room = fits.map in
+      ap (λ (block : List ℕ). entry_at block (chunk % 512)) (same (1 + chunk / 512) (omega arith) (omega (arith, room, low)))
 
   same_bits : (zone : ℕ) → zone < zone_count old.geometry → bits_in (image_at old.geometry held sector) d zone ≡ bits_in old c zone
-  same_bits zone low = ?
+  same_bits zone low =
+      let up = mul-le-mul_right (per old.geometry) (let next : zone + 1 ≤ zone_count old.geometry = omega (arith, low) in next) in
+      ap concat (same_map (bitmap_block (image_at old.geometry held sector) d zone) (bitmap_block old c zone) 0 (per old.geometry) (λ i from inside.
+      ap (λ (l : Layout). set_block (image_at old.geometry held sector) d.first (1 + l.map_blocks + zone * per old.geometry + i)) layout
+      ∙ same (1 + c.head.layout.map_blocks + zone * per old.geometry + i) (omega arith) (omega (arith, up, inside))))
 
   pub tables_moved : tables_of (image_at old.geometry held sector) d ≡ tables_of old c
-  tables_moved = ?
+  tables_moved =
+      ap₂ (λ (es : List MapEntry) (bs : List (List ℕ)). record { entries = es; bits = bs })
+      (ap (λ (l : Layout). map (entry_in (image_at old.geometry held sector) d) (range_with_len 0 l.chunks)) layout
+      ∙ same_map (entry_in (image_at old.geometry held sector) d) (entry_in old c) 0 c.head.layout.chunks (λ i from low. same_entry i (omega arith)))
+      (same_map (bits_in (image_at old.geometry held sector) d) (bits_in old c) 0 (zone_count old.geometry) (λ i from low. same_bits i (omega arith)))
