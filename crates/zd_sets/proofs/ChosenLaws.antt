@@ -63,10 +63,13 @@ module _ (image : Image) (d : Chosen) where
           (inr (refl, record { good = second; first = inl (s, record { good = good; takes = refl; older = older }) }))
       by_test false older e =
           subst (λ (f : Chosen). IsEither image f) e
-          (inl (refl, record {
-            good = good;
-            tie = λ u some. subst (λ (v : Super). nat_lt s.generation v.generation ≡ false) (one_is t u (sym second ∙ some)) older;
-          }))
+          (inl (
+            refl,
+            record {
+              good = good;
+              tie = λ u some. subst (λ (v : Super). nat_lt s.generation v.generation ≡ false) (one_is t u (sym second ∙ some)) older;
+            },
+          ))
 
   by_second : (n : ℕ) (o : Option Super) → good_super image 0 ≡ None → zone_with_magic image ≡ Some n → second_super image n ≡ o
       → option_map (second_set n) o ≡ Some d → IsEither image d
@@ -311,20 +314,23 @@ module _ (old : Image) (held : ℕ → ℕ) (sector : ℕ → ℕ → List ℕ) 
   pub choice_set_1 : c.set ≡ 1 → c.zone ≡ size → c.other ≡ 0 → IsSet1 old (chosen_of c) → (d : Chosen) × IsNewChoice c end old now d
   choice_set_1 set first other was = elim way.super [
     | inl same ↦ (chosen_of c, stays_1 set first other was (same_good 0 (subst (λ (z : ℕ). block_at now z 0 ≡ block_at old z 0) other same)))
-    | inr (inl bad) ↦ (chosen_of c, stays_1 set first other was
-        (sym (ap (λ z. good_super now z) other) ∙ bad.1
-        ∙ sym (none_is (good_super old 0) (ap (λ (o : Option Super). is_some o) (ap (λ z. good_super old z) (sym other)) ∙ sym is.other_good ∙ bad.0))))
+    | inr (inl bad) ↦ (
+      chosen_of c,
+      stays_1 set first other was
+          (sym (ap (λ z. good_super now z) other) ∙ bad.1
+          ∙ sym (none_is (good_super old 0) (ap (λ (o : Option Super). is_some o) (ap (λ z. good_super old z) (sym other)) ∙ sym is.other_good ∙ bad.0))),
+    )
     | inr (inr put) ↦ (first_set size (head_at old.geometry c.other c.head), turns_1 first other was put.0 put.1)
   ]
 
   pub new_choice : (d : Chosen) × IsNewChoice c end old now d
   new_choice = elim placed.places [
     | inl p ↦ elim (either_set old (chosen_of c) is.is_chosen) [
-        | inl at ↦ (chosen_of c, choice_set_0 p.0 p.1 p.2 at.1)
-        | inr at ↦ absurd (omega (arith, p.0, at.0))
-      ]
+      | inl at ↦ (chosen_of c, choice_set_0 p.0 p.1 p.2 at.1)
+      | inr at ↦ absurd (omega (arith, p.0, at.0))
+    ]
     | inr p ↦ elim (either_set old (chosen_of c) is.is_chosen) [
-        | inl at ↦ absurd (omega (arith, p.0, at.0))
-        | inr at ↦ choice_set_1 p.0 p.1 p.2 at.1
-      ]
+      | inl at ↦ absurd (omega (arith, p.0, at.0))
+      | inr at ↦ choice_set_1 p.0 p.1 p.2 at.1
+    ]
   ]
