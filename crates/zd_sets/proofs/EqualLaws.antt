@@ -102,7 +102,7 @@ Both-then (Some a) (Some b) None P Q R f h k = absurd k
 Both-then (Some a) (Some b) (Some c) P Q R f h k = f a b c refl refl h k
 
 -- blocks of a set at one place are one
-same_place : (n k i : ℕ) → 0 < n → k / n ≡ i / n → k % n ≡ i % n → k ≡ i
+pub same_place : (n k i : ℕ) → 0 < n → k / n ≡ i / n → k % n ≡ i % n → k ≡ i
 same_place n k i some quotient rest = let e = ap (λ (q : ℕ). n * q) quotient in omega arith
 
 -- a block of a set that isn't at such a place stays
@@ -255,7 +255,7 @@ same_good a b zone geometry block =
     ap₂ (λ (n : ℕ) (bytes : List ℕ). if_own (zone * n) (decoded bytes)) (ap (λ (s : Shape). s.zone_blocks) geometry) block
 
 -- a used block lies in the zones of its set
-in_zones : (g : Shape) (l : Layout) → Fits g l → 0 < g.zone_blocks → (k : ℕ) → k < used_blocks g l → k / g.zone_blocks < set_zones g l
+pub in_zones : (g : Shape) (l : Layout) → Fits g l → 0 < g.zone_blocks → (k : ℕ) → k < used_blocks g l → k / g.zone_blocks < set_zones g l
 in_zones g l fits some k low = elim (cases_lt (k / g.zone_blocks) (set_zones g l)) [
   | inl inside ↦ inside
   | inr past ↦ absurd (let most = fits.set in let bits = fits.bitmaps in omega (arith, mul-le-mul_left g.zone_blocks past))

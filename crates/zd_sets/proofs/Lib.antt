@@ -1,6 +1,9 @@
 pub mod BlockLaws
 pub mod ChoiceLaws
+pub mod ChosenLaws
 pub mod EqualLaws
+pub mod KeptLaws
 pub mod MagicLaws
 pub mod StopLaws
+pub mod VolumeLaws
 pub mod WriteLaws
