@@ -1,56 +1,29 @@
 -- What opening makes of a disk: the same volume, whose tables serve its content.
-use Rattle.std.proofs.Common.{◌≡◌, ◌⊎◌, ℕ, zero, suc, ◌+◌, ◌*◌, ◌/◌, ◌%◌, ◌<◌, ◌≤◌, List, [], ◌++◌, length, take, drop, Some, None, IsNone, Option, refl, sym, ap, ap₂, ◌∙◌, subst, inl, inr, arith}
-use Rattle.std.proofs.Math.Seq.{take-append_seam, drop-append_seam}
+use Rattle.std.proofs.Common.{◌≡◌, ℕ, ◌+◌, ◌*◌, ◌<◌, List, [], Some, None, IsNone, Option, refl, sym, ap, ap₂, ◌∙◌, subst, inl, inr, arith}
 use Rattle.std.proofs.lemmas.Bool.{cases_lt}
-use Rattle.std.specs.Prelude.{IsTrue}
 use Rattle.zd_base.specs.Geometry.{Shape, IsShape, zone_count}
-use Rattle.zd_base.specs.Layout.{Fits, first_data_zone, set_zones, used_blocks}
+use Rattle.zd_base.specs.Layout.{Fits, set_zones, used_blocks}
 use Rattle.zd_model.specs.Faults.{bad_bit, bad_chunk}
-use Rattle.zd_model.specs.Image.{Image, IsImage, Same, run_of, block_at}
-use Rattle.zd_model.specs.Bytes.{IsSector, zero_sector}
-use Rattle.zd_model.specs.Tables.{Tables, Names, entry_of, is_valid, sector_of, served}
+use Rattle.zd_model.specs.Image.{Image, IsImage, Same, block_at}
+use Rattle.zd_model.specs.Tables.{Tables, served}
 use Rattle.zd_model.specs.Super.{decoded}
-use Rattle.zd_model.specs.Volume.{Chosen, IsWellFormed, chosen, content, good_super, has_magic, if_own, tables_of}
-use Rattle.zd_model.specs.declared.metadata.MapEntry.{MapEntry}
+use Rattle.zd_model.specs.Volume.{Chosen, IsWellFormed, chosen, good_super, has_magic, if_own, tables_of}
 use Rattle.zd_model.specs.declared.metadata.Super.{Super}
-use Rattle.zd_model.proofs.SameLaws.{chosen_first, chosen_of_same, image_at, same_block, same_map}
-use Rattle.zd_model.proofs.ContentLaws.{content_of_same, in_set, same_back, tables_of_same, well_formed_of_same, where_it_is}
+use Rattle.zd_model.proofs.SameLaws.{chosen_first, chosen_of_same, image_at, same_block}
+use Rattle.zd_model.proofs.ContentLaws.{content_of_same, same_back, tables_of_same, well_formed_of_same}
 use Rattle.zd_disk.specs.Told.{Both}
 use Rattle.zd_sets.specs.Blocks.{AreBlocks}
-use Rattle.zd_sets.specs.Choice.{HasMagicBehind, IsChoice, IsMisplaced, IsPlaced, chosen_of}
+use Rattle.zd_sets.specs.Choice.{IsChoice, IsMisplaced, IsPlaced, chosen_of}
 use Rattle.zd_sets.specs.Equal.{InSet, IsMadeEqual, OnlyAt}
 use Rattle.zd_sets.specs.Kept.{KeepsVolume}
 use Rattle.zd_sets.specs.declared.choice.Chosen.{Chosen as Choice}
-use Rattle.zd_open.specs.Examined.{ArePointers, Explains, IsExamined, IsPlacedSet}
-use Rattle.zd_open.specs.Opened.{IsKept, IsOpened, IsSameVolume}
+use Rattle.zd_sets.proofs.VolumeLaws.{served_same}
+use Rattle.zd_open.specs.Examined.{Explains, IsExamined, IsPlacedSet}
+use Rattle.zd_open.specs.Opened.{IsOpened, IsSameVolume}
 use Rattle.zd_open.specs.Tables.{tables_in}
 use Rattle.zd_open.specs.declared.examining.OpenFault.{OpenFault}
 use Rattle.zd_open.specs.declared.examining.OpenFault.TheVariants.{NoSuperBlock, Layout as BadLayout, BadMap, BadBits, Device, Memory}
 use Rattle.zd_open.proofs.OpenLaws.{same_bits, tables_are}
-
--- the first of sectors that are joined alike
-first_sector : (x y xs ys : List ℕ) → length x ≡ length y → x ++ xs ≡ y ++ ys → x ≡ y
-first_sector x y xs ys sizes e =
-    sym (take-append_seam x xs) ∙ ap₂ (λ (k : ℕ) (zs : List ℕ). take k zs) sizes e ∙ take-append_seam y ys
-
--- and the others
-other_sectors : (x y xs ys : List ℕ) → length x ≡ length y → x ++ xs ≡ y ++ ys → xs ≡ ys
-other_sectors x y xs ys sizes e =
-    sym (drop-append_seam x xs) ∙ ap₂ (λ (k : ℕ) (zs : List ℕ). drop k zs) sizes e ∙ drop-append_seam y ys
-
--- sectors that are joined alike are the same
-pub same_sectors : (s t : ℕ → List ℕ) (a n j : ℕ) → ((i : ℕ) → a ≤ i → i < a + n → length (s i) ≡ length (t i))
-    → run_of s a n ≡ run_of t a n → j < n → s (a + j) ≡ t (a + j)
-same_sectors s t a zero j sizes e low = absurd (omega arith)
-same_sectors s t a (suc n) zero sizes e low =
-    let here : a + 0 ≡ a = omega arith in
-    ap s here ∙ first_sector (s a) (t a) (run_of s (a + 1) n) (run_of t (a + 1) n) (sizes a (omega arith) (omega arith)) e ∙ sym (ap t here)
-same_sectors s t a (suc n) (suc j) sizes e low =
-    let here : a + suc j ≡ a + 1 + j = omega arith in
-    ap s here
-    ∙ same_sectors s t (a + 1) n j (λ i from below. sizes i (omega arith) (omega arith))
-    (other_sectors (s a) (t a) (run_of s (a + 1) n) (run_of t (a + 1) n) (sizes a (omega arith) (omega arith)) e) (omega arith)
-    ∙ sym (ap t here)
 
 -- what was examined
 module _ (g : Shape) (c : Choice) (bytes reported : List ℕ) (image : Image) (e : IsExamined g c bytes reported image) where
@@ -143,54 +116,6 @@ module _ (old new : Image) (image : IsImage old) (shape : IsShape old.geometry) 
   explains_same Device why = tt
   explains_same Memory why = tt
 
--- no used block of the other set stands in a data zone
-no_data : (g : Shape) (c : Choice) → IsPlaced g c → 0 < g.zone_blocks → (z x : ℕ) → first_data_zone g c.head.layout ≤ z
-    → InSet g c.other 0 (used_blocks g c.head.layout) z x → ⊥
-no_data g c placed some z x behind at =
-    let set = placed.fits.set in
-    let bits = placed.fits.bitmaps in
-    let inside = in_set g.zone_blocks c.head.layout.meta_blocks at.0 some (omega (arith, at.2, set, bits)) in
-    elim placed.places [
-      | inl p ↦ absurd (omega (arith, p.2, at.3, inside, behind))
-      | inr p ↦ absurd (omega (arith, p.2, at.3, inside, behind))
-    ]
-
--- what changes in used blocks of the other set alone serves the same
-module _ (old new : Image) (c : Choice) (first : IsImage old) (second : IsImage new) (shape : IsShape old.geometry) (placed : IsPlaced old.geometry c) (well : IsWellFormed old (chosen_of c)) (only : OnlyAt (InSet old.geometry c.other 0 (used_blocks old.geometry c.head.layout)) old new) where
-  abbrev pub tables : Tables
-  tables = tables_of old (chosen_of c)
-
-  data_same : (chunk z x j : ℕ) → Names (entry_of tables chunk) z → IsTrue (is_valid tables z x) → x < old.geometry.zone_blocks → j < 8
-      → new.sector z (8 * x + j) ≡ old.sector z (8 * x + j)
-  data_same chunk z x j named valid inside few =
-      let zones = well.map.data_zones chunk z named in
-      let size = shape.size.least in
-      elim (cases_lt z old.geometry.conv) [
-        | inl conv ↦
-            let here = first.conventional z conv in
-            let there = second.conventional z (let count = ap (λ (g : Shape). g.conv) only.geometry in omega (arith, count)) in
-            let blocks = ap (λ (g : Shape). g.zone_blocks) only.geometry in
-            same_sectors (new.sector z) (old.sector z) (8 * x) 8 j
-            (λ i from below. (second.sectors z i (omega (arith, there, blocks))).0 ∙ sym (first.sectors z i (omega (arith, here))).0)
-            (only.elsewhere z x conv inside (no_data old.geometry c placed (omega (arith, size)) z x zones.0)) few
-        | inr seq ↦
-            let below = well.bits.below z x seq zones.1 inside valid in
-            (only.sequential z seq).sectors (8 * x + j) (omega (arith, below))
-      ]
-
-  pub served_same : served old.geometry.zone_blocks tables new.sector ≡ content old (chosen_of c)
-  served_same =
-      let b : ℕ = old.geometry.zone_blocks in
-      let size = shape.size.least in
-      same_map (sector_of b tables new.sector) (sector_of b tables old.sector) 0 (length tables.entries * b * 8) (λ i from low.
-      let x : ℕ = i / 8 % b in
-      let entry : MapEntry = entry_of tables (i / 8 / b) in
-      let inside : x < b = omega (arith, size) in
-      where_it_is (λ u v. u ≡ v) tables x entry.zone (λ z. new.sector z (8 * x + i % 8)) (λ z. old.sector z (8 * x + i % 8)) _ _
-      (λ z named valid. data_same (i / 8 / b) z x (i % 8) (inl named) valid inside (omega arith))
-      (where_it_is (λ u v. u ≡ v) tables x entry.buffer (λ z. new.sector z (8 * x + i % 8)) (λ z. old.sector z (8 * x + i % 8)) zero_sector zero_sector
-      (λ z named valid. data_same (i / 8 / b) z x (i % 8) (inr named) valid inside (omega arith)) refl))
-
 -- a disk that was flushed, examined, and had both sets made equal
 module _ (g : Shape) (c : Choice) (bytes reported : List ℕ) (old middle new : Image) (first : IsImage old) (second : IsImage middle) (third : IsImage new) (shape : IsShape old.geometry) (same : Same old middle) (e : IsExamined g c bytes reported middle) where
   pub was_well_formed : IsWellFormed old (chosen_of c)
@@ -223,12 +148,15 @@ module _ (g : Shape) (c : Choice) (bytes reported : List ℕ) (old middle new : 
 
   pub same_volume : KeepsVolume (chosen_of c) middle new → IsSameVolume old new
   same_volume keeps =
-      let there = keeps e.well_formed in
-      (chosen_of c, was_well_formed, record {
-        set = there.set;
-        well_formed = there.well_formed;
-        same = there.same ∙ content_of_same old middle (chosen_of c) first shape same was_well_formed;
-      })
+      let there = keeps e.well_formed in (
+        chosen_of c,
+        was_well_formed,
+        record {
+          set = there.set;
+          well_formed = there.well_formed;
+          same = there.same ∙ content_of_same old middle (chosen_of c) first shape same was_well_formed;
+        },
+      )
 
 -- one call after another, where the disk tells its zones
 pub both_then : (o m n : Option Image) (P Q R : Image → Image → Type 0)
