@@ -1,6 +1,9 @@
 pub mod BlockLaws
 pub mod ChoiceLaws
 pub mod EqualLaws
+pub mod KeptLaws
 pub mod MagicLaws
+pub mod MixLaws
 pub mod StopLaws
+pub mod WayLaws
 pub mod WriteLaws
