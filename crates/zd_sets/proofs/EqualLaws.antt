@@ -199,11 +199,11 @@ at_front g zone z k p =
     let none = zero-div g.zone_blocks in
     (0, omega arith, omega arith, omega (arith, p.0, none), p.1 ∙ sym (zero-mod g.zone_blocks))
 
-zero_piece : piece (replicate 512 0) 0 ≡ zero_sector
+pub zero_piece : piece (replicate 512 0) 0 ≡ zero_sector
 unfolding zero_sector
 zero_piece = take_all 512 (replicate {A = ℕ} 512 0) (omega (arith, length-replicate {A = ℕ} 512 0))
 
-front_sector : (image : Image) (zone : ℕ) → image.sector zone 0 ≡ zero_sector → take 512 (block_at image zone 0) ≡ zero_sector
+pub front_sector : (image : Image) (zone : ℕ) → image.sector zone 0 ≡ zero_sector → take 512 (block_at image zone 0) ≡ zero_sector
 front_sector image zone e =
     let size = length-zero_sector in
     ap (λ (s : List ℕ). take 512 (s ++ run_of (image.sector zone) 1 7)) e
