@@ -106,7 +106,7 @@ pub same_place : (n k i : ℕ) → 0 < n → k / n ≡ i / n → k % n ≡ i % n
 same_place n k i some quotient rest = let e = ap (λ (q : ℕ). n * q) quotient in omega arith
 
 -- a block of a set that isn't at such a place stays
-set_still : (g : Shape) (first : ℕ) (At : ℕ → ℕ → Type 0) (b c : Image) → 0 < g.zone_blocks → b.geometry ≡ g → OnlyAt At b c
+pub set_still : (g : Shape) (first : ℕ) (At : ℕ → ℕ → Type 0) (b c : Image) → 0 < g.zone_blocks → b.geometry ≡ g → OnlyAt At b c
     → (k : ℕ) → first + k / g.zone_blocks < g.conv → (At (first + k / g.zone_blocks) (k % g.zone_blocks) → ⊥)
     → set_block c first k ≡ set_block b first k
 set_still g first At b c some shape only k conv other =
@@ -199,11 +199,11 @@ at_front g zone z k p =
     let none = zero-div g.zone_blocks in
     (0, omega arith, omega arith, omega (arith, p.0, none), p.1 ∙ sym (zero-mod g.zone_blocks))
 
-zero_piece : piece (replicate 512 0) 0 ≡ zero_sector
+pub zero_piece : piece (replicate 512 0) 0 ≡ zero_sector
 unfolding zero_sector
 zero_piece = take_all 512 (replicate {A = ℕ} 512 0) (omega (arith, length-replicate {A = ℕ} 512 0))
 
-front_sector : (image : Image) (zone : ℕ) → image.sector zone 0 ≡ zero_sector → take 512 (block_at image zone 0) ≡ zero_sector
+pub front_sector : (image : Image) (zone : ℕ) → image.sector zone 0 ≡ zero_sector → take 512 (block_at image zone 0) ≡ zero_sector
 front_sector image zone e =
     let size = length-zero_sector in
     ap (λ (s : List ℕ). take 512 (s ++ run_of (image.sector zone) 1 7)) e
@@ -249,7 +249,7 @@ super_put g zone head a b c shape first image low some sizes w same =
           sizes (ap (λ (s : Shape). zone * s.zone_blocks) (sym (same.geometry ∙ here)));
     }
 
-same_good : (a b : Image) (zone : ℕ) → b.geometry ≡ a.geometry → block_at b zone 0 ≡ block_at a zone 0
+pub same_good : (a b : Image) (zone : ℕ) → b.geometry ≡ a.geometry → block_at b zone 0 ≡ block_at a zone 0
     → good_super b zone ≡ good_super a zone
 same_good a b zone geometry block =
     ap₂ (λ (n : ℕ) (bytes : List ℕ). if_own (zone * n) (decoded bytes)) (ap (λ (s : Shape). s.zone_blocks) geometry) block
@@ -273,7 +273,7 @@ module _ (g : Shape) (choice : Choice) (bytes : List ℕ) (placed : IsPlaced g c
         | inr p ↦ absurd (omega (arith, p.1, p.2, at.3))
       ]
 
-  there_inside : (k : ℕ) → k < used_blocks g choice.head.layout → choice.other + k / g.zone_blocks < g.conv
+  pub there_inside : (k : ℕ) → k < used_blocks g choice.head.layout → choice.other + k / g.zone_blocks < g.conv
   there_inside k low =
       let one = in_zones g choice.head.layout placed.fits some k low in
       let room = placed.fits.conventional_data in

@@ -4,6 +4,8 @@ pub mod ChosenLaws
 pub mod EqualLaws
 pub mod KeptLaws
 pub mod MagicLaws
+pub mod MixLaws
 pub mod StopLaws
 pub mod VolumeLaws
+pub mod WayLaws
 pub mod WriteLaws

@@ -9,7 +9,7 @@ use Rattle.zd_disk.specs.Told.{Both}
 use Rattle.zd_sets.specs.Writes.{WroteBlock}
 
 -- sectors that are the pieces of a list are the list
-pieces : (sector : ℕ → List ℕ) (n a : ℕ) (bytes : List ℕ) → length bytes ≡ 512 * n
+pub pieces : (sector : ℕ → List ℕ) (n a : ℕ) (bytes : List ℕ) → length bytes ≡ 512 * n
     → ((j : ℕ) → j < n → sector (a + j) ≡ piece bytes j) → run_of sector a n ≡ bytes
 pieces sector zero a [] size each = refl
 pieces sector zero a (b ∷ bytes) size each = absurd (omega arith)

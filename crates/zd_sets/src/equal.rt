@@ -7,7 +7,7 @@ ghost use Rattle.zd_disk.specs.Told.{Both, WhereTold};
 ghost use Rattle.zd_model.specs.Super.{HasSizes};
 ghost use Rattle.zd_sets.specs.Blocks.{AreBlocks};
 ghost use Rattle.zd_sets.specs.Choice.{IsChoice, IsPlaced, chosen_of};
-ghost use Rattle.zd_sets.specs.Kept.{KeepsVolume};
+ghost use Rattle.zd_sets.specs.Kept.{HasPartOfBlock, HasPartOfBlocks, HasPartOfSuper, IsPartCleared, KeepsVolume};
 ghost use Rattle.zd_sets.specs.Equal.{EachLeft, HasBlock, HasBlocks, HasSuper, InSet, IsCleared, IsDurable, IsMadeEqual, IsReady, StopsLeaveOnly, head_at};
 
 use crate::read::read_set_block;
@@ -29,6 +29,8 @@ fn copy_block<D: ZonedDisk>(
     requires size { length block.now ≡ 4096 }
     ensures ok { OnOk result (Both (D.zones disk.old) (D.zones disk.new)
         (HasBlock geometry.now first i block.now)) }
+    ensures way { Both (D.zones disk.old) (D.zones disk.new)
+        (HasPartOfBlock geometry.now first i block.now) }
     ensures told { D.told disk.new ≡ D.told disk.old }
     ensures calls { D.calls disk.old ≤ D.calls disk.new }
     ensures left { StopsLeaveOnly (InSet geometry.now first i (i + 1))
@@ -59,6 +61,8 @@ fn copy_blocks<D: ZonedDisk>(
     requires size { length blocks.now ≡ 4096 * end }
     ensures ok { OnOk result (Both (D.zones disk.old) (D.zones disk.new)
         (HasBlocks geometry.now first 1 end blocks.now)) }
+    ensures way { Both (D.zones disk.old) (D.zones disk.new)
+        (HasPartOfBlocks geometry.now first 1 end blocks.now) }
     ensures told { D.told disk.new ≡ D.told disk.old }
     ensures calls { D.calls disk.old ≤ D.calls disk.new }
     ensures left { StopsLeaveOnly (InSet geometry.now first 1 end)
@@ -85,6 +89,7 @@ fn clear_bad<D: ZonedDisk>(
     requires zone { zone < geometry.now.conv }
     ensures ok { OnOk result (Both (D.zones disk.old) (D.zones disk.new)
         (IsCleared geometry.now zone good)) }
+    ensures way { Both (D.zones disk.old) (D.zones disk.new) (IsPartCleared geometry.now zone good) }
     ensures told { D.told disk.new ≡ D.told disk.old }
     ensures calls { D.calls disk.old ≤ D.calls disk.new }
     ensures left { StopsLeaveOnly (InSet geometry.now zone 0 1)
@@ -117,8 +122,11 @@ fn put_super<D: ZonedDisk>(disk: &mut D, geometry: &Geometry, chosen: &Chosen) -
     requires placed { IsPlaced geometry.now chosen.now }
     requires ready { EachLeft (D.zones disk.old) (D.calls disk.old) (D.left disk.old)
         (IsReady chosen.now (used_blocks geometry.now chosen.now.head.layout)) }
+    requires now { WhereTold (D.zones disk.old)
+        (IsReady chosen.now (used_blocks geometry.now chosen.now.head.layout)) }
     ensures ok { OnOk result (Both (D.zones disk.old) (D.zones disk.new)
         (HasSuper geometry.now chosen.now.other chosen.now.head)) }
+    ensures way { Both (D.zones disk.old) (D.zones disk.new) (HasPartOfSuper geometry.now chosen.now) }
     ensures told { D.told disk.new ≡ D.told disk.old }
     ensures calls { D.calls disk.old ≤ D.calls disk.new }
     ensures left { StopsLeaveOnly (InSet geometry.now chosen.now.other 0 1)

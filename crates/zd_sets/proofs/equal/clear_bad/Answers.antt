@@ -5,8 +5,11 @@ use Rattle.zd_model.specs.Image.{Image, Same}
 use Rattle.zd_disk.proofs.ToldLaws.{IfSome-each, Some-same}
 use Rattle.zd_disk.specs.Steps.{Wrote}
 use Rattle.zd_sets.specs.Equal.{InSet, IsCleared}
+use Rattle.zd_sets.specs.Kept.{IsPartCleared}
 use Rattle.zd_sets.proofs.EqualLaws.{Both-then, at_front, cleared, ok_anyway}
 use Rattle.zd_sets.proofs.StopLaws.{stops_flush, stops_more, stops_then, stops_write}
+use Rattle.zd_sets.proofs.WayLaws.{done_clear, part_clear}
+use Rattle.zd_sets.proofs.WriteLaws.{Both-more}
 use Rattle.zd_sets.proofs.equal.clear_bad.Goals as goal
 
 pub write-requires-clause-pointer : goal.write-requires-clause-pointer
@@ -54,3 +57,23 @@ returns-clause-left g c =
     c.write.ensures.left))
     (stops_flush (InSet shape c.args.zone 0 1) (g.D.ZonedDisk.zones c.write.new.self) (g.D.ZonedDisk.calls c.write.new.self) (g.D.ZonedDisk.calls c.flush.new.self) (g.D.ZonedDisk.left c.write.new.self) (g.D.ZonedDisk.left c.flush.new.self) c.flush.ensures.calls
     (λ image can. (d.leaves c.write.new.self (g.D.ZonedDisk.calls c.write.new.self) image (omega arith) can).0) c.flush.ensures.left)
+
+pub returns-in_err-write-clause-way : goal.returns-in_err-write-clause-way
+returns-in_err-write-clause-way g c =
+    let d = g.met.D.ZonedDisk in
+    let size = c.zone_blocks-zone_blocks.ensures.shape.size.least in
+    Both-more _ _ _ _ (λ old new e w.
+    let told = Some-same _ _ (sym (d.agrees c.args.disk.now old e) ∙ c.requires.told) in
+    part_clear c.args.geometry.now c.args.zone c.args.good old new told (d.shaped c.args.disk.now old e) c.requires.zone (omega arith) c.if-good.false w)
+    c.in_err-write.ensures.err
+
+pub returns-clause-way : goal.returns-clause-way
+returns-clause-way g c =
+    let d = g.met.D.ZonedDisk in
+    let size = c.zone_blocks-zone_blocks.ensures.shape.size.least in
+    Both-then _ _ _ (Wrote c.args.zone 0 (replicate 512 0)) Same (IsPartCleared c.args.geometry.now c.args.zone c.args.good)
+    (λ old middle new e m wrote same.
+    let told = Some-same _ _ (sym (d.agrees c.args.disk.now old e) ∙ c.requires.told) in
+    done_clear c.args.geometry.now c.args.zone c.args.good old new
+    (cleared c.args.geometry.now c.args.zone c.args.good old middle new told (d.shaped c.args.disk.now old e) (d.shaped c.write.new.self middle m) c.requires.zone (omega arith) c.if-good.false wrote same))
+    c.in_ok-write.ensures.ok c.flush.ensures.zones

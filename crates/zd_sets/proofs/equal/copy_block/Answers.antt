@@ -1,11 +1,13 @@
 use Rattle.std.proofs.Common.{◌≡◌, ◌+◌, ◌/◌, ◌%◌, Option, OnOk, sym, ◌∙◌, subst, arith}
-use Rattle.std.proofs.lemmas.Result.{on_ok_weaker}
+use Rattle.std.proofs.lemmas.Result.{on_err_weaker, on_ok_weaker}
 use Rattle.zd_model.specs.Image.{Image}
 use Rattle.zd_disk.proofs.ToldLaws.{Some-same}
 use Rattle.zd_disk.specs.Told.{Both}
 use Rattle.zd_sets.specs.Equal.{HasBlock, InSet}
+use Rattle.zd_sets.specs.Kept.{HasPartOfBlock}
 use Rattle.zd_sets.proofs.EqualLaws.{wrote_has}
 use Rattle.zd_sets.proofs.StopLaws.{stops_after_read, stops_more, stops_write}
+use Rattle.zd_sets.proofs.WayLaws.{done_block, either_way, part_block}
 use Rattle.zd_sets.proofs.WriteLaws.{Both-more}
 use Rattle.zd_sets.proofs.equal.copy_block.Goals as goal
 
@@ -41,3 +43,26 @@ returns-clause-left g c =
     (λ image can. (d.leaves middle (g.D.ZonedDisk.calls middle) image (omega arith) can).0)
     (λ image can. Some-same _ _ (sym (d.leaves middle (g.D.ZonedDisk.calls middle) image (omega arith) can).1 ∙ read.told ∙ c.requires.told))
     c.write_block.ensures.left))
+
+pub returns-clause-way : goal.returns-clause-way
+returns-clause-way g c =
+    let d = g.met.D.ZonedDisk in
+    let read = c.in_ok-read_set_block.ensures in
+    let size = c.zone_blocks-zone_blocks.ensures.shape.size.least in
+    let shape = c.args.geometry.now in
+    let first = c.args.first in
+    let i = c.args.i in
+    let block = c.args.block.now in
+    let middle = c.read_set_block.new.disk in
+    subst (λ (o : Option Image). Both o (g.D.ZonedDisk.zones c.write_block.new.disk) (HasPartOfBlock c.args.geometry.now c.args.first c.args.i c.args.block.now))
+    read.zones
+    (either_way c.write_block.result _
+    (on_ok_weaker c.write_block.result (Both-more _ _ _ _ (λ old new e w.
+    let same = Some-same _ _ (sym (d.agrees c.read_set_block.new.disk old e) ∙ read.told ∙ c.requires.told) in
+    done_block shape first i block old new
+    (wrote_has shape first i block old new same (d.shaped middle old e) (omega arith) c.requires.inside c.requires.size w)))
+    c.write_block.ensures.ok)
+    (on_err_weaker c.write_block.result (Both-more _ _ _ _ (λ old new e w.
+    let same = Some-same _ _ (sym (d.agrees c.read_set_block.new.disk old e) ∙ read.told ∙ c.requires.told) in
+    part_block shape first i block old new same (d.shaped middle old e) (omega arith) c.requires.inside c.requires.size w))
+    c.write_block.ensures.err))

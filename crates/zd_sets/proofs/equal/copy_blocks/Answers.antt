@@ -3,8 +3,10 @@ use Rattle.zd_model.specs.Image.{Same}
 use Rattle.zd_disk.proofs.ToldLaws.{Some-same}
 use Rattle.zd_disk.specs.Told.{Both}
 use Rattle.zd_sets.specs.Equal.{HasBlock, HasBlocks, InSet}
+use Rattle.zd_sets.specs.Kept.{HasPartOfBlock, HasPartOfBlocks}
 use Rattle.zd_sets.proofs.EqualLaws.{Both-then, blocks_stay, copied_more, ok_anyway}
 use Rattle.zd_sets.proofs.StopLaws.{stops_flush, stops_more, stops_then}
+use Rattle.zd_sets.proofs.WayLaws.{blocks_then_part, done_blocks}
 use Rattle.zd_sets.proofs.equal.copy_blocks.Goals as goal
 
 pub loop-i-preserved : goal.loop-i-preserved
@@ -60,3 +62,32 @@ returns-clause-left g c =
     c.loop-i.invariant.more (omega (arith, c.flush.ensures.calls)) c.loop-i.invariant.copied c.loop-i.invariant.left
     (stops_flush (InSet shape c.args.first 1 c.args.end) (g.D.ZonedDisk.zones c.loop-i.disk) (g.D.ZonedDisk.calls c.loop-i.disk) (g.D.ZonedDisk.calls c.flush.new.self) (g.D.ZonedDisk.left c.loop-i.disk) (g.D.ZonedDisk.left c.flush.new.self) c.flush.ensures.calls
     (λ image can. (d.leaves c.loop-i.disk (g.D.ZonedDisk.calls c.loop-i.disk) image (omega arith) can).0) c.flush.ensures.left)
+
+pub returns-in_err-copy_block-clause-way : goal.returns-in_err-copy_block-clause-way
+returns-in_err-copy_block-clause-way g c =
+    let d = g.met.D.ZonedDisk in
+    let blocks = c.args.blocks.now in
+    let shape = c.args.geometry.now in
+    let size = c.zone_blocks-zone_blocks.ensures.shape.size.least in
+    Both-then _ _ _ (HasBlocks shape c.args.first 1 c.loop-i.i blocks) (HasPartOfBlock shape c.args.first c.loop-i.i c.block.result.now) (HasPartOfBlocks shape c.args.first 1 c.args.end blocks)
+    (λ old middle new e m before here.
+    let same = Some-same _ _ (sym (d.agrees c.args.disk.now old e) ∙ c.requires.told) in
+    blocks_then_part shape c.args.first 1 c.loop-i.i c.args.end blocks old middle new (omega arith) same (omega arith) (omega arith) c.requires.inside before
+    (subst (λ (block : List ℕ). HasPartOfBlock shape c.args.first c.loop-i.i block middle new) c.block.ensures here))
+    c.loop-i.invariant.copied c.copy_block.ensures.way
+
+pub returns-clause-way : goal.returns-clause-way
+returns-clause-way g c =
+    let blocks = c.args.blocks.now in
+    let shape = c.args.geometry.now in
+    let size = c.zone_blocks-zone_blocks.ensures.shape.size.least in
+    let end : c.loop-i.i ≡ c.args.end = omega arith in
+    let d = g.met.D.ZonedDisk in
+    let last = subst (λ (n : ℕ). Both (g.D.ZonedDisk.zones c.args.disk.now) (g.D.ZonedDisk.zones c.loop-i.disk) (HasBlocks c.args.geometry.now c.args.first 1 n c.args.blocks.now)) end
+    c.loop-i.invariant.copied in
+    Both-then _ _ _ (HasBlocks shape c.args.first 1 c.args.end blocks) Same (HasPartOfBlocks shape c.args.first 1 c.args.end blocks)
+    (λ old middle new e m before same.
+    let told = Some-same _ _ (sym (d.agrees c.args.disk.now old e) ∙ c.requires.told) in
+    done_blocks shape c.args.first 1 c.args.end blocks old new
+    (blocks_stay shape c.args.first (omega arith) old middle new told (d.shaped c.loop-i.disk middle m) same 1 c.args.end blocks c.requires.inside before))
+    last c.flush.ensures.zones

@@ -6,10 +6,14 @@ use Rattle.zd_model.specs.Super.{HasSizes, block_of}
 use Rattle.zd_model.specs.declared.metadata.Super.{Super}
 use Rattle.zd_model.proofs.SuperSpelling.{spells}
 use Rattle.zd_disk.proofs.ToldLaws.{Some-same}
+use Rattle.zd_disk.specs.Steps.{WriteStep}
+use Rattle.zd_base.specs.Layout.{used_blocks}
 use Rattle.zd_sets.specs.Equal.{HasSuper, InSet}
+use Rattle.zd_sets.specs.Kept.{HasPartOfSuper}
 use Rattle.zd_sets.specs.Writes.{IsConventionalBlock, WroteBlock}
 use Rattle.zd_sets.proofs.EqualLaws.{Both-then, at_front, durable_new, ok_anyway, super_put}
 use Rattle.zd_sets.proofs.StopLaws.{stops_flush, stops_more, stops_then, stops_write}
+use Rattle.zd_sets.proofs.WayLaws.{Both-told, done_super, part_super}
 use Rattle.zd_sets.proofs.equal.put_super.Goals as goal
 
 pub write_super-requires : goal.write_super-requires
@@ -67,3 +71,32 @@ returns-clause-left g c =
     c.write_super.ensures.left))
     (stops_flush (InSet shape c.args.chosen.now.other 0 1) (g.D.ZonedDisk.zones c.write_super.new.disk) (g.D.ZonedDisk.calls c.write_super.new.disk) (g.D.ZonedDisk.calls c.flush.new.self) (g.D.ZonedDisk.left c.write_super.new.disk) (g.D.ZonedDisk.left c.flush.new.self) c.flush.ensures.calls
     (λ image can. (d.leaves c.write_super.new.disk (g.D.ZonedDisk.calls c.write_super.new.disk) image (omega arith) can).0) c.flush.ensures.left)
+
+pub returns-in_err-write_super-clause-way : goal.returns-in_err-write_super-clause-way
+returns-in_err-write_super-clause-way g c =
+    let d = g.met.D.ZonedDisk in
+    let size = c.zone_blocks-zone_blocks.ensures.shape.size.least in
+    let shape = c.args.geometry.now in
+    let chosen = c.args.chosen.now in
+    let sizes = subst HasSizes c.head_at-head.ensures.value c.head_at-head.ensures.sizes in
+    Both-told _ _ _ _ (λ old new e n w.
+    let told = Some-same _ _ (sym (d.agrees c.args.disk.now old e) ∙ c.requires.told) in
+    part_super shape chosen (used_blocks shape chosen.head.layout) old new told (d.shaped c.args.disk.now old e) (d.shaped c.write_super.new.disk new n) c.requires.placed.other (omega arith) sizes
+    (c.requires.now old e) (subst (λ (s : Super). WriteStep old chosen.other 0 (block_of s) old new) c.head_at-head.ensures.value w))
+    c.in_err-write_super.ensures.err
+
+pub returns-clause-way : goal.returns-clause-way
+returns-clause-way g c =
+    let d = g.met.D.ZonedDisk in
+    let size = c.zone_blocks-zone_blocks.ensures.shape.size.least in
+    let shape = c.args.geometry.now in
+    let zone = c.args.chosen.now.other in
+    let head = c.args.chosen.now.head in
+    let sizes = subst HasSizes c.head_at-head.ensures.value c.head_at-head.ensures.sizes in
+    Both-then _ _ _ (WroteBlock zone 0 (block_of c.head_at-head.result)) Same (HasPartOfSuper shape c.args.chosen.now)
+    (λ old middle new e m wrote same.
+    let told = Some-same _ _ (sym (d.agrees c.args.disk.now old e) ∙ c.requires.told) in
+    done_super shape c.args.chosen.now old new
+    (super_put shape zone head old middle new told (d.shaped c.args.disk.now old e) (d.shaped c.write_super.new.disk middle m) c.requires.placed.other (omega arith) sizes
+    (subst (λ (s : Super). WroteBlock zone 0 (block_of s) old middle) c.head_at-head.ensures.value wrote) same))
+    c.in_ok-write_super.ensures.ok c.flush.ensures.zones
