@@ -1,6 +1,8 @@
 pub mod PieceLaws
 pub mod BlockLaws
 pub mod BaseLaws
+pub mod PlaceLaws
+pub mod EntryLaws
 pub mod SinkLaws
 pub mod ReportLaws
 pub mod RunLaws
