@@ -60,3 +60,18 @@ returns-in-Ok-make_equal-clause-kept g c =
     c.settle.ensures.zones
     (subst (λ (o : Option Image). Both o (g.D.ZonedDisk.zones c.make_equal.new.disk) (KeepsVolume (chosen_of volume.chosen)))
     c.examine.ensures.zones c.make_equal.ensures.kept)
+
+pub returns-in-Err-make_equal-clause-kept : goal.returns-in-Err-make_equal-clause-kept
+returns-in-Err-make_equal-clause-kept g c =
+    let d = g.met.D.ZonedDisk in
+    let volume = c.in-Ok-examine.image in
+    both_then (g.D.ZonedDisk.zones c.args.disk.now) (g.D.ZonedDisk.zones c.settle.new.disk) (g.D.ZonedDisk.zones c.make_equal.new.disk) Same
+    (KeepsVolume (chosen_of volume.chosen)) IsKept
+    (λ old middle new from via to same keeps.
+    let told = Some-same _ _ (sym c.in-Ok.ensures.told ∙ d.agrees c.settle.new.disk middle via) in
+    let shape = subst IsShape (told ∙ same.geometry) c.in-Ok.ensures.shape in
+    inr (same_volume volume.geometry volume.chosen volume.blocks volume.pointers.items old middle new (d.shaped c.args.disk.now old from) (d.shaped c.settle.new.disk middle via)
+    (d.shaped c.make_equal.new.disk new to) shape same (c.in-Ok-examine.ensures.ok middle via) keeps))
+    c.settle.ensures.zones
+    (subst (λ (o : Option Image). Both o (g.D.ZonedDisk.zones c.make_equal.new.disk) (KeepsVolume (chosen_of volume.chosen)))
+    c.examine.ensures.zones c.make_equal.ensures.kept)
