@@ -1,6 +1,6 @@
 -- A block after a write that was cut short: each of its sectors is the old one or the written one.
-use Rattle.std.proofs.Common.{◌≡◌, ◌==◌, ◌⊎◌, Option, Some, None, Result, Ok, Err, ℕ, zero, suc, ◌+◌, ◌*◌, ◌-◌, ◌<◌, ◌≤◌, List, [], ◌∷◌, ◌++◌, length, take, drop, replicate, is_some, inl, inr, Bool, true, false, refl, sym, ap, ap₂, ◌∙◌, subst, arith, lit<, add-zero}
-use Rattle.std.proofs.lemmas.Bool.{cases_eq, cases_lt}
+use Rattle.std.proofs.Common.{◌≡◌, ◌==◌, ◌⊎◌, Some, None, Result, Ok, Err, ℕ, zero, suc, ◌+◌, ◌*◌, ◌-◌, ◌<◌, ◌≤◌, List, ◌++◌, length, take, drop, replicate, is_some, inl, inr, true, false, refl, sym, ap, ◌∙◌, subst, arith, lit<, add-zero}
+use Rattle.std.proofs.lemmas.Bool.{cases_lt}
 use Rattle.std.proofs.lemmas.List.{drop-drop, ext_get_or, get_or-append_right, get_or-drop, get_or-replicate, get_or-take, get_or_append_left, length-append, length-drop, length-replicate, length-take, take-append-le, take-take}
 use Rattle.std.proofs.Math.Seq.{take-append_seam, drop-append_seam}
 use Rattle.std.specs.Int.{w32, from_le_bytes}
@@ -212,11 +212,11 @@ module _ (old new : Image) (first : IsImage old) (second : IsImage new) (zone : 
       ] in
       elim (sector_is 0 (omega arith)) [
         | inl stays ↦ inl (same_run (new.sector zone) (old.sector zone) 0 8 (λ i from below. elim (cases_lt i 1) [
-            | inl first ↦
-                let one : i ≡ 0 = omega arith in
-                subst (λ (k : ℕ). new.sector zone k ≡ old.sector zone k) (sym one) stays
-            | inr above ↦ new_tail i above below ∙ sym (old_tail i above below)
-          ]))
+          | inl first ↦
+              let one : i ≡ 0 = omega arith in
+              subst (λ (k : ℕ). new.sector zone k ≡ old.sector zone k) (sym one) stays
+          | inr above ↦ new_tail i above below ∙ sym (old_tail i above below)
+        ]))
         | inr put ↦ inr (whole put new_tail)
       ]
 

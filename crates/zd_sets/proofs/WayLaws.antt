@@ -1,6 +1,6 @@
 -- Steps of making the other set equal, done or cut short, one after another.
 use Rattle.std.proofs.Common.{◌≡◌, ◌⊎◌, Option, Some, None, Result, Ok, Err, OnOk, OnErr, ℕ, ◌+◌, ◌*◌, ◌/◌, ◌%◌, ◌<◌, ◌≤◌, List, length, replicate, inl, inr, Bool, true, false, refl, sym, ap, ◌∙◌, subst, arith}
-use Rattle.std.proofs.lemmas.Bool.{cases_eq, cases_lt}
+use Rattle.std.proofs.lemmas.Bool.{cases_lt}
 use Rattle.std.proofs.lemmas.List.{length-replicate}
 use Rattle.zd_base.specs.Geometry.{IsShape, Shape}
 use Rattle.zd_base.specs.Layout.{used_blocks}
@@ -13,9 +13,9 @@ use Rattle.zd_disk.specs.Told.{Both}
 use Rattle.zd_sets.specs.Blocks.{AreBlocks, blocks_of}
 use Rattle.zd_sets.specs.Choice.{IsChoice, IsPlaced, chosen_of}
 use Rattle.zd_sets.specs.Equal.{HasBlock, HasBlocks, HasSuper, InSet, IsCleared, IsReady, OnlyAt, head_at}
-use Rattle.zd_sets.specs.Kept.{HasMagicOf, HasPartOfBlock, HasPartOfBlocks, HasPartOfSuper, IsOnTheWay, IsOtherSuper, IsPartCleared, KeepsVolume}
+use Rattle.zd_sets.specs.Kept.{HasMagicOf, HasPartOfBlock, HasPartOfBlocks, HasPartOfSuper, IsOnTheWay, IsPartCleared, KeepsVolume}
 use Rattle.zd_sets.specs.declared.choice.Chosen.{Chosen as Choice}
-use Rattle.zd_sets.proofs.EqualLaws.{Both-then, at_front, first_block, only_more, only_same, only_then, same_good, same_place, set_still, there_inside}
+use Rattle.zd_sets.proofs.EqualLaws.{Both-then, at_front, first_block, only_more, only_then, same_good, same_place, set_still, there_inside}
 use Rattle.zd_sets.proofs.KeptLaws.{keeps_volume}
 use Rattle.zd_sets.proofs.MixLaws.{step_mark, step_over_good, step_over_zeros, step_zeros, zeros_bad}
 use Rattle.zd_sets.proofs.StopLaws.{step_only}

@@ -1,5 +1,5 @@
-use Rattle.std.proofs.Common.{◌≡◌, Option, Some, sym, ◌∙◌, ap, subst, inr}
-use Rattle.zd_base.specs.Geometry.{IsShape, Shape}
+use Rattle.std.proofs.Common.{Option, sym, ◌∙◌, subst, inr}
+use Rattle.zd_base.specs.Geometry.{IsShape}
 use Rattle.zd_base.specs.Layout.{used_blocks}
 use Rattle.zd_model.specs.Image.{Image, Same}
 use Rattle.zd_disk.proofs.ToldLaws.{Some-same}

@@ -1,16 +1,12 @@
-use Rattle.std.proofs.Common.{◌≡◌, ◌⊎◌, ℕ, List, refl, Err, ◌∙◌, ap, ap₂, sym, subst, inl, inr, arith}
-use Rattle.std.specs.List.{list_any}
+use Rattle.std.proofs.Common.{◌≡◌, ◌⊎◌, ℕ, List, refl, Err, ◌∙◌, ap, sym, subst, inl, inr, arith}
 use Rattle.zd_base.specs.Geometry.{Shape}
-use Rattle.zd_disk.proofs.ToldLaws.{Both-new}
-use Rattle.zd_model.specs.Image.{Image}
 use Rattle.zd_model.specs.declared.requests.Ending.TheVariants as endings
 use Rattle.zd_model.specs.declared.texts.Outcome.{Outcome}
 use Rattle.zd_model.specs.declared.texts.Outcome.TheVariants as outcomes
-use Rattle.zd_open.specs.Examined.{ArePointers}
 use Rattle.zd_open.specs.Opened.{IsOpened}
 use Rattle.zd_sets.proofs.StopLaws.{Both-first}
 use Rattle.zd_replay.specs.Base.{base_of, served_by}
-use Rattle.zd_replay.specs.Replay.{Ends, HasStatus, IsHistory, IsSessionStatus, Tells, no_memory}
+use Rattle.zd_replay.specs.Replay.{Ends, HasStatus, IsHistory, no_memory}
 use Rattle.zd_replay.proofs.BaseLaws.{base_is}
 use Rattle.zd_replay.proofs.ReportLaws.{reports, reports_end, ends_unopened, unopened, unopened_status, ends_run, history_of, ran_status}
 use Rattle.zd_replay.proofs.RunLaws.{counted_later}
