@@ -57,7 +57,6 @@ piece_at sector a (suc n) zero sizes low =
     ap (λ (k : ℕ). take k (sector a ++ run_of sector (a + 1) n)) (sym (sizes a (omega arith) (omega arith)))
     ∙ take-append_seam (sector a) (run_of sector (a + 1) n) ∙ ap sector (sym (add-zero a))
 piece_at sector a (suc n) (suc j) sizes low =
-    let block : List ℕ = sector a ++ run_of sector (a + 1) n in
     let behind : drop 512 (sector a ++ run_of sector (a + 1) n) ≡ run_of sector (a + 1) n =
     ap (λ (k : ℕ). drop k (sector a ++ run_of sector (a + 1) n)) (sym (sizes a (omega arith) (omega arith)))
     ∙ drop-append_seam (sector a) (run_of sector (a + 1) n) in

@@ -17,6 +17,8 @@ use zd_disk::ZonedDisk;
 use zd_model::Super;
 
 /// Makes block `i` of the set that begins in zone `first` this one, by a write where it differs.
+///
+/// At any answer the block begins with the magic bytes only where it did before or where this one does.
 fn copy_block<D: ZonedDisk>(
     disk: &mut D,
     geometry: &Geometry,
@@ -48,6 +50,8 @@ fn copy_block<D: ZonedDisk>(
 
 /// Makes the blocks of the set that begins in zone `first` equal to these, from block 1 up to block
 /// `end`, by writes of those that differ, and flushes.
+///
+/// At any answer each begins with the magic bytes only where it did before or where its own one does.
 fn copy_blocks<D: ZonedDisk>(
     disk: &mut D,
     geometry: &Geometry,
@@ -78,7 +82,8 @@ fn copy_blocks<D: ZonedDisk>(
 }
 
 /// Makes the first sector of a conventional zone zeros and flushes, where the super block there is bad:
-/// no part of a write to it makes it good then, but the whole.
+/// no part of a write to it makes it good then, but the whole. At any answer it is as before, or bad as
+/// it was.
 fn clear_bad<D: ZonedDisk>(
     disk: &mut D,
     geometry: &Geometry,
@@ -115,8 +120,9 @@ fn head_at(geometry: &Geometry, zone: ZoneNo, head: Super) -> Super
 
 /// Writes the other set's super block, with the chosen fields and its own number, and flushes.
 ///
-/// A stop may cut the write short, so the other set needs the used blocks of the chosen one before, in
-/// each image that a stop may leave.
+/// A stop or a failed call may cut the write short, so the other set needs the used blocks of the chosen
+/// one before, on the disk and in each image that a stop may leave. At any answer the super block is as
+/// before, or bad as it was, or has the chosen fields.
 fn put_super<D: ZonedDisk>(disk: &mut D, geometry: &Geometry, chosen: &Chosen) -> Result<(), Failed>
     requires told { D.told disk.old ≡ Some geometry.now }
     requires placed { IsPlaced geometry.now chosen.now }
