@@ -1,7 +1,6 @@
 pub mod PieceLaws
 pub mod BlockLaws
 pub mod BaseLaws
-pub mod SinkLaws
 pub mod ReportLaws
 pub mod RunLaws
 pub mod CompleteLaws
