@@ -9,8 +9,7 @@ use zd_base::Failed;
 
 /// Hands out all bytes, in whatever pieces the sink takes them.
 ///
-/// `Failed` comes where a call of the sink fails, the first one. The sink has then taken a front of the
-/// bytes, maybe none of them, and is called no more.
+/// `Failed` comes only where the sink failed. It has then taken a front of the bytes, maybe none of them.
 pub fn write_all<K: Sink>(out: &mut K, bytes: &[u8]) -> Result<(), Failed>
     ensures taken { IfSome (K.held out.old) (λ before.
         Takes before (K.held out.new) bytes.now (IsOk result)) }
