@@ -1,3 +1,2 @@
-pub mod SinkLaws
 pub mod WordLaws
 pub mod RunLaws

@@ -6,9 +6,10 @@ use Rattle.zd_base.specs.declared.layout.Layout.{Layout}
 use Rattle.zd_model.specs.Image.{Image}
 use Rattle.zd_format.specs.Fresh.{IsFresh, IsFormatted, IsUnfit}
 use Rattle.zd_disk.proofs.ToldLaws.{Some-same}
+use Rattle.zd_ports.specs.Taking.{Takes}
 use Rattle.zd_admin.proofs.WordLaws.{one_number, third}
 use Rattle.zd_admin.specs.Words.{AsksFormat, IsCommand}
-use Rattle.zd_admin.specs.Output.{HasStatus, IsDone, Takes, Tells, output}
+use Rattle.zd_admin.specs.Output.{HasStatus, IsDone, Tells, output}
 use Rattle.zd_admin.specs.Admin.{EndsWell, Ends, IsDecided, IsDoneStatus, OneOutcome, Reports, no_label}
 use Rattle.zd_admin.specs.declared.outcome.Outcome.{Outcome}
 use Rattle.zd_admin.specs.declared.outcome.Outcome.TheVariants.{Formatted, Usage, Device, Memory, Unfit}

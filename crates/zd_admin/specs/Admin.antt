@@ -5,8 +5,9 @@ use Rattle.zd_base.specs.Geometry.{Shape}
 use Rattle.zd_base.specs.Layout.{formatted}
 use Rattle.zd_model.specs.Image.{Image}
 use Rattle.zd_format.specs.Fresh.{IsFormatted, IsFresh, IsUnfit}
+use Rattle.zd_ports.specs.Taking.{Takes}
 use Rattle.zd_admin.specs.Words.{AsksFormat, IsCommand}
-use Rattle.zd_admin.specs.Output.{HasStatus, Takes, output}
+use Rattle.zd_admin.specs.Output.{HasStatus, output}
 use Rattle.zd_admin.specs.declared.outcome.Outcome.{Outcome}
 use Rattle.zd_admin.specs.declared.outcome.Outcome.TheVariants.{Formatted, Usage, Device, Memory}
 use Rattle.zd_admin.specs.declared.outcome.Outcome.TheVariants.{Unfit}

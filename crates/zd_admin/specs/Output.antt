@@ -1,7 +1,7 @@
 -- What is told of a run.
-use Rattle.std.specs.Prelude.{◌≡◌, ◌⊎◌, ℕ, List, [], ◌++◌, codes, Option, Some}
-use Rattle.zd_base.specs.Faults.{Rose}
+use Rattle.std.specs.Prelude.{◌≡◌, ◌⊎◌, ℕ, List, ◌++◌, codes, Option}
 use Rattle.zd_model.specs.Text.{numeral}
+use Rattle.zd_ports.specs.Taking.{Takes}
 use Rattle.zd_admin.specs.declared.outcome.Outcome.{Outcome}
 use Rattle.zd_admin.specs.declared.outcome.Outcome.TheVariants.{Formatted, Usage, Device, Memory}
 use Rattle.zd_admin.specs.declared.outcome.Outcome.TheVariants.{Unfit}
@@ -36,23 +36,6 @@ IsFixed outcome = Unit {0}
 -- the status is that of the outcome; only where all was done may it be 6 instead
 abbrev pub HasStatus : Outcome → ℕ → Type 0
 HasStatus outcome status = (status ≡ status_of outcome) ⊎ ((status ≡ 6) × IsDone outcome)
-
--- the sink took these bytes behind what it held, whole or a front of them
-pub record Takes
-    (before : List ℕ) (after : Option (List ℕ)) (bytes : List ℕ) (whole : Type 0) : Type 0 where
-  pub front : List ℕ
-  pub rest : List ℕ
-  pub taken : after ≡ Some (before ++ front)
-  pub is_front : front ++ rest ≡ bytes
-  pub all : whole → rest ≡ []
-
--- nothing failed
-abbrev pub IsFaultless : ℕ → ℕ → Type 0
-IsFaultless before now = Rose before now → ⊥
-
--- when the sink has the whole output: where all was done, and where it didn't fail
-abbrev pub IsTaken : ℕ → ℕ → ℕ → Type 0
-IsTaken status before now = (status ≡ 0) ⊎ IsFaultless before now
 
 -- what was told: this outcome, or that no memory was found for its text
 pub record Tells

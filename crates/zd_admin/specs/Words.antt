@@ -1,14 +1,9 @@
 -- Which words are a command.
-use Rattle.std.specs.Prelude.{◌≡◌, ℕ, ◌≤◌, ◌==◌, Bool, false, Option, Some, None}
+use Rattle.std.specs.Prelude.{◌≡◌, ℕ, ◌≤◌, false, Option, Some, None}
 use Rattle.std.specs.Prelude.{List, [], ◌∷◌, codes, slice_get}
 use Rattle.uuid.specs.Text.{parsed}
 use Rattle.zd_model.specs.Text.{numeral}
-
--- it begins with a minus, and isn't a minus alone
-abbrev pub is_option : List ℕ → Bool
-is_option [] = false
-is_option (first ∷ []) = false
-is_option (first ∷ second ∷ rest) = first == 45
+use Rattle.zd_ports.specs.Words.{is_option}
 
 -- `--format --seq R --uuid U IMAGE`: the words ask to format an image with so many reserved zones,
 -- and with this identifier of the volume

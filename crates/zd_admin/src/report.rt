@@ -1,30 +1,15 @@
 //! Telling an output, and the exit status of a run.
 
-ghost use Rattle.std.specs.Prelude.{◌≡◌, ◌⊎◌, ◌≤◌, IsOk, true, false};
-ghost use Rattle.zd_base.specs.Faults.{HasCause, Rose};
+ghost use Rattle.std.specs.Prelude.{◌≡◌, ◌⊎◌, true, false};
+ghost use Rattle.zd_base.specs.Faults.{Rose};
 ghost use Rattle.zd_disk.specs.Told.{WhereTold};
-ghost use Rattle.zd_admin.specs.Output.{HasStatus, IsFixed, IsTaken, Takes, Tells, output};
+ghost use Rattle.zd_ports.specs.Taking.{IsTaken, Takes};
+ghost use Rattle.zd_admin.specs.Output.{HasStatus, IsFixed, Tells, output};
 
 use crate::outcome::{Outcome, fixed_line, formatted_text, status_of};
 use std::alloc::Global;
-use zd_base::{Failed, Status};
-use zd_ports::Sink;
-
-/// Hands out all bytes, in whatever pieces they are taken.
-fn write_all<K: Sink>(out: &mut K, bytes: &[u8]) -> Result<(), Failed>
-    ensures taken { WhereTold (K.held out.old) (λ before.
-        Takes before (K.held out.new) bytes.now (IsOk result)) }
-    ensures cause { HasCause (K.faults out.old) (K.faults out.new) result }
-{
-    let mut at = 0;
-    while at < bytes.len() {
-        let Ok(taken) = out.write(&bytes[at..]) else {
-            return Err(Failed);
-        };
-        at += taken;
-    }
-    Ok(())
-}
+use zd_base::Status;
+use zd_ports::{Sink, write_all};
 
 /// The status of an outcome whose output was handed out or not: 6 where that failed and nothing
 /// else was wrong.

@@ -4,8 +4,9 @@ ghost use Rattle.std.specs.Prelude.{◌≡◌, ◌↔◌, ◌≤◌, map, string
 ghost use Rattle.zd_base.specs.Faults.{Rose};
 ghost use Rattle.zd_disk.specs.Told.{WhereTold};
 ghost use Rattle.zd_format.specs.Fresh.{EachLeft};
+ghost use Rattle.zd_ports.specs.Taking.{IsFaultless, IsTaken};
 ghost use Rattle.zd_admin.specs.Words.{IsCommand};
-ghost use Rattle.zd_admin.specs.Output.{IsDone, IsFaultless, IsTaken};
+ghost use Rattle.zd_admin.specs.Output.{IsDone};
 ghost use Rattle.zd_admin.specs.Admin.{Ends, EndsWell, IsDoneStatus, IsFreshBy, IsStatus, IsUnfitBy};
 ghost use Rattle.zd_admin.specs.Admin.{Reports, WasMade, no_label};
 

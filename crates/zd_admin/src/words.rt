@@ -4,12 +4,12 @@ ghost use Rattle.std.specs.Prelude.{◌≡◌, ◌≤◌, ℕ, map, string_bytes
 ghost use Rattle.std.specs.Option.{option_copied};
 ghost use Rattle.uuid.specs.Text.{parsed};
 ghost use Rattle.zd_model.specs.Text.{numeral};
-ghost use Rattle.zd_admin.specs.Words.{AsksFormat, IsCommand, NamesImage, is_option};
+ghost use Rattle.zd_admin.specs.Words.{AsksFormat, IsCommand, NamesImage};
 
 use itoa::Buffer;
 use uuid::Uuid;
 use zd_base::Memory;
-use zd_ports::Paths;
+use zd_ports::{Paths, is_option};
 
 /// The most reserved zones that a command may ask for.
 const MOST: u32 = 65_536;
@@ -21,16 +21,6 @@ pub struct Asked {
     pub reserved: u32,
     /// The identifier of the volume.
     pub volume: Uuid,
-}
-
-/// Whether a word is an option: it begins with a minus, and isn't a minus alone.
-fn is_option(word: &str) -> bool
-    ensures { result ≡ is_option word.now }
-{
-    match word.as_bytes() {
-        [first, _, ..] => *first == b'-',
-        _ => false,
-    }
 }
 
 /// The number of reserved zones that a word writes, without leading zeros.

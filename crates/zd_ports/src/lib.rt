@@ -13,6 +13,8 @@ mod std_ports;
 mod stepper;
 #[cfg(test)]
 mod tests;
+mod words;
+mod writing;
 
 pub use gate::{FreeGate, Gate};
 pub use mem_sink::MemSink;
@@ -23,4 +25,6 @@ pub use sink::Sink;
 pub use source::Source;
 pub use std_ports::{StdSink, StdSource};
 pub use stepper::Stepper;
+pub use words::is_option;
+pub use writing::write_all;
 pub use zd_base::{Failed, Memory};

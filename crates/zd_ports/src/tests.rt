@@ -4,7 +4,7 @@ ghost use Rattle.std.specs.Prelude.{◌<◌, length};
 
 use super::*;
 use std::io;
-use std::io::Read;
+use std::io::{Read, Write};
 use std::test::Fail;
 
 // Whether one read of at most three bytes gives these.
@@ -106,4 +106,49 @@ fn a_command_names_its_files(rt: HostRuntime) {
         front: None,
     };
     assert!(rt; paths != Paths::default());
+}
+
+// A writer that takes one byte a call, into five bytes of room.
+#[derive(Drop)]
+struct Slow {
+    room: [u8; 5],
+    taken: usize,
+}
+
+impl Write for Slow {
+    fn write(&mut self, buf: &[u8]) -> io::Result<usize> {
+        if buf.is_empty() || self.taken >= 5 {
+            return Ok(0);
+        }
+        self.room[self.taken] = buf[0];
+        self.taken += 1;
+        Ok(1)
+    }
+
+    fn flush(&mut self) -> io::Result<()> {
+        Ok(())
+    }
+}
+
+#[test]
+fn bytes_are_handed_out_piece_by_piece(rt: HostRuntime) {
+    let mut slow = Slow {
+        room: [0; 5],
+        taken: 0,
+    };
+    let mut sink = StdSink::new(&mut slow);
+    assert_eq!(rt; write_all(&mut sink, b""), Ok(()));
+    assert_eq!(rt; write_all(&mut sink, b"hel"), Ok(()));
+    assert_eq!(rt; write_all(&mut sink, b"lo, lost"), Err(Failed));
+    drop(sink);
+    assert_eq!(rt; &slow.room, b"hello");
+}
+
+#[test]
+fn a_minus_alone_is_no_option(rt: HostRuntime) {
+    assert!(rt; is_option("--format"));
+    assert!(rt; is_option("-x"));
+    assert!(rt; !is_option("-"));
+    assert!(rt; !is_option(""));
+    assert!(rt; !is_option("x-y"));
 }

@@ -3,7 +3,6 @@ pub mod BlockLaws
 pub mod BaseLaws
 pub mod PlaceLaws
 pub mod EntryLaws
-pub mod SinkLaws
 pub mod ReportLaws
 pub mod RunLaws
 pub mod CompleteLaws

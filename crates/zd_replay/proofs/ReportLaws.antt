@@ -24,7 +24,8 @@ use Rattle.zd_model.specs.declared.texts.BadLine.{BadLine}
 use Rattle.zd_script.specs.Fault.{IfBad}
 use Rattle.zd_script.specs.declared.fault.ScriptFault.{ScriptFault}
 use Rattle.zd_script.specs.declared.fault.ScriptFault.TheVariants as scripts
-use Rattle.zd_replay.specs.Replay.{Takes, Tells, HasStatus, IsHistory, IsCommand, IsRunnable, Comes, Ends, open_outcome, script_outcome, Reports, AreCounted, no_memory}
+use Rattle.zd_ports.specs.Taking.{Takes}
+use Rattle.zd_replay.specs.Replay.{Tells, HasStatus, IsHistory, IsCommand, IsRunnable, Comes, Ends, open_outcome, script_outcome, Reports, AreCounted, no_memory}
 
 -- the text of an outcome alone
 alone_text : (outcome : Outcome) → output [] outcome ≡ outcome_text outcome

@@ -1,7 +1,6 @@
 -- What a run is promised to report.
-use Rattle.std.specs.Prelude.{◌≡◌, ◌⊎◌, ℕ, ◌+◌, ◌-◌, ◌/◌, ◌^◌, ◌<◌, ◌≤◌, Bool, true, false, ◌==◌, IsTrue, Option, Some, List, [], ◌∷◌, ◌++◌, length, map, count_by}
+use Rattle.std.specs.Prelude.{◌≡◌, ◌⊎◌, ℕ, ◌+◌, ◌-◌, ◌/◌, ◌^◌, ◌<◌, ◌≤◌, Bool, true, false, ◌==◌, IsTrue, Option, Some, List, [], ◌∷◌, length, map, count_by}
 use Rattle.std.specs.List.{list_any}
-use Rattle.zd_base.specs.Faults.{Rose}
 use Rattle.zd_base.specs.declared.numbers.Why.TheVariants as whys
 use Rattle.zd_model.specs.Image.{Image}
 use Rattle.zd_model.specs.Plain.{Answer}
@@ -15,6 +14,7 @@ use Rattle.zd_model.specs.declared.requests.Request.{Request}
 use Rattle.zd_model.specs.declared.requests.Ending.TheVariants as endings
 use Rattle.zd_model.specs.declared.texts.Outcome.{Outcome}
 use Rattle.zd_model.specs.declared.texts.Outcome.TheVariants as outcomes
+use Rattle.zd_ports.specs.Taking.{Takes, IsFaultless}
 use Rattle.zd_replay.specs.Words.{is_command}
 use Rattle.zd_script.specs.declared.fault.ScriptFault.{ScriptFault}
 use Rattle.zd_script.specs.declared.fault.ScriptFault.TheVariants as scripts
@@ -94,22 +94,6 @@ IsUntouched status = IsTrue (list_any (λ s. s == status) (1 ∷ 2 ∷ 5 ∷ 11 
 -- those of a script that can't be read
 abbrev pub IsRefusalStatus : ℕ → Type 0
 IsRefusalStatus status = IsTrue (list_any (λ s. s == status) (2 ∷ 5 ∷ 7 ∷ []))
-
--- the sink took these bytes behind what it held, whole or a front of them
-pub record Takes (before : List ℕ) (after : Option (List ℕ)) (bytes : List ℕ) (whole : Type 0) : Type 0 where
-  pub front : List ℕ
-  pub rest : List ℕ
-  pub taken : after ≡ Some (before ++ front)
-  pub is_front : front ++ rest ≡ bytes
-  pub all : whole → rest ≡ []
-
--- nothing failed
-abbrev pub IsFaultless : ℕ → ℕ → Type 0
-IsFaultless before now = Rose before now → ⊥
-
--- when the sink has the whole output: where all was done, and where it didn't fail
-abbrev pub IsTaken : ℕ → ℕ → ℕ → Type 0
-IsTaken status before now = (status ≡ 0) ⊎ IsFaultless before now
 
 -- each caller's entries are all of its pieces
 abbrev pub IsWhole : ℕ → ℕ → List Request → List HistoryEntry → Type 0

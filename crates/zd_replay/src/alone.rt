@@ -4,9 +4,10 @@ ghost use Rattle.std.specs.Prelude.{◌≡◌, ◌⊎◌, Some, ◌↔◌, ◌�
 ghost use Rattle.zd_base.specs.Faults.{Rose};
 ghost use Rattle.zd_disk.specs.Told.{Both, WhereTold};
 ghost use Rattle.zd_open.specs.Opened.{IsFlushed, IsKept};
+ghost use Rattle.zd_ports.specs.Taking.{IsFaultless, IsTaken};
 ghost use Rattle.zd_replay.specs.Base.{HasItsPointers, IsOpenVolume, served_by};
 ghost use Rattle.zd_replay.specs.Reads.{IsScriptOfReads};
-ghost use Rattle.zd_replay.specs.Replay.{IsCommand, IsReadPlan, script_outcome, open_outcome, IsHistory, IsRight, IsFaultless, IsTaken, IsStatus, IsSessionStatus, IsRefusalStatus, IsUntouched, Tells, Reports, WhereAllTold, AreCounted};
+ghost use Rattle.zd_replay.specs.Replay.{IsCommand, IsReadPlan, script_outcome, open_outcome, IsHistory, IsRight, IsStatus, IsSessionStatus, IsRefusalStatus, IsUntouched, Tells, Reports, WhereAllTold, AreCounted};
 
 use crate::report::{tell_all, tell_alone, tell_end};
 use crate::run::run;

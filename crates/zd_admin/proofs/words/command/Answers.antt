@@ -1,7 +1,7 @@
 use Rattle.std.proofs.Common.{◌<◌, ◌≤◌, length, rules, arith, sym, ap, ◌∙◌}
 use Rattle.std.specs.Prelude.{string_bytes}
 use Rattle.uuid.specs.Text.{parsed}
-use Rattle.zd_admin.specs.Words.{is_option}
+use Rattle.zd_ports.specs.Words.{is_option}
 use Rattle.zd_admin.proofs.WordLaws.{equal, four_words, has_six, six_words, third, where_none}
 use Rattle.zd_admin.proofs.words.command.Goals.{in_default-via-then-words-lt6, in_default-via-else-words-lt6+else-words-lt7}
 use Rattle.zd_admin.proofs.words.command.Goals as goal
