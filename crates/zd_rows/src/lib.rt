@@ -6,6 +6,8 @@
 #![tactic(auto)]
 
 #[cfg(test)]
+mod compare;
+#[cfg(test)]
 mod data;
 #[cfg(test)]
 mod equal_sets;
@@ -20,6 +22,8 @@ mod image_file;
 #[cfg(test)]
 mod large;
 #[cfg(test)]
+mod opened;
+#[cfg(test)]
 mod opening;
 #[cfg(test)]
 mod reads;
@@ -31,3 +35,5 @@ mod run;
 mod sets;
 #[cfg(test)]
 mod stops;
+#[cfg(test)]
+mod two_zones;
