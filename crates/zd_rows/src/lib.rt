@@ -1,5 +1,5 @@
 //! Whole runs over small volumes: what they print, and the status that they end with; and what crates
-//! make of whole disks: sets of metadata, openings, stops.
+//! make of whole disks: sets of metadata, openings.
 //!
 //! Tests alone stand here, above all the crates that they run through. In their texts `;` is the line
 //! feed byte.
@@ -33,7 +33,5 @@ mod refusals;
 mod run;
 #[cfg(test)]
 mod sets;
-#[cfg(test)]
-mod stops;
 #[cfg(test)]
 mod two_zones;

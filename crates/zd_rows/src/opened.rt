@@ -5,6 +5,7 @@ use crate::fresh::{
     Data, NONE, SMALL, bitmap_block, flush, fresh, get, map_block, patterned, put, with_chunk,
     write_at,
 };
+use crate::refusals::refuse;
 use crate::run::{expect, expect_calls};
 use crate::sets::in_generation;
 use std::process::Abort;
@@ -41,7 +42,11 @@ fn a_bad_super_block_is_made_good(rt: HostRuntime) -> Result<(), Fail> {
         expect_equal(&rt, &mut disk, 2)?;
         expect_calls(&rt, disk, READ, ONE_BLOCK, 4)?;
     }
-    Ok(())
+    let mut disk = written(&rt)?;
+    for zone in [1, 0] {
+        put(&rt, &mut disk, zone, 0, &[0; 4096])?;
+    }
+    refuse(&rt, disk, "end 3 volume no-super-block;")
 }
 
 #[test]
