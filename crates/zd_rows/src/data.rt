@@ -1,9 +1,11 @@
-//! Reads of data in conventional zones.
+//! Reads of data in conventional zones, in sequential ones and in buffers.
 
 use crate::fresh::{
-    Data, NONE, bitmap_block, flush, format, map_block, patterned, put, with_chunk,
+    Data, NONE, bitmap_block, bitmap_of, flush, format, fresh, map_block, patterned, put,
+    with_chunk,
 };
-use crate::run::expect;
+use crate::run::{expect, expect_calls};
+use std::alloc::{AllocError, Global};
 use std::fs;
 use std::process::Abort;
 use std::rt::Files;
@@ -26,13 +28,11 @@ fn one_block(rt: &(impl Abort + AllocGlobal)) -> Result<MemDisk, Fail> {
 #[test]
 fn a_valid_block_is_read_and_others_are_zeros(rt: HostRuntime) -> Result<(), Fail> {
     let disk = one_block(&rt)?;
-    let calls = disk.calls();
     let output = "0 1 0 r 0 3 data z8,p4x8,z8 @0;end 0 ok;";
-    let disk = expect(&rt, disk, "r 0 0 3;", output, 0)?;
+    let disk = expect_calls(&rt, disk, "r 0 0 3;", output, 4)?;
     let output = "0 1 0 r 1 1 data p4x8 @0;0 2 0 r 2 14 data z112 @0;\
         0 2 1 r 16 2 data z16 @0;end 0 ok;";
-    let disk = expect(&rt, disk, "r 0 1 1;r 0 2 16;", output, 0)?;
-    assert_eq!(rt; disk.calls(), calls, "writing calls");
+    expect_calls(&rt, disk, "r 0 1 1;r 0 2 16;", output, 4)?;
     Ok(())
 }
 
@@ -51,9 +51,7 @@ fn an_invalid_block_reads_as_zeros_whatever_the_zone_holds(rt: HostRuntime) -> R
 /// The volume of the rows whose chunk 0 has blocks 0, 1 and 3 valid.
 fn two_runs(rt: &(impl Abort + AllocGlobal)) -> Result<MemDisk, Fail> {
     let mut disk = one_block(rt)?;
-    let mut bits = bitmap_block(0);
-    bits[0] = 0x0b;
-    put(rt, &mut disk, 0, 4, &bits)?;
+    put(rt, &mut disk, 0, 4, &bitmap_of(0x0b))?;
     for (block, seed) in [(0, 3), (1, 4), (3, 5)] {
         put(rt, &mut disk, 2, block, &patterned(seed, block))?;
     }
@@ -61,11 +59,11 @@ fn two_runs(rt: &(impl Abort + AllocGlobal)) -> Result<MemDisk, Fail> {
     Ok(disk)
 }
 
-/// Has the nth read of zone 2 fail.
-fn failing(rt: &impl AllocGlobal, mut disk: MemDisk, nth: u64) -> Result<MemDisk, Fail> {
+/// Has the nth read of a zone fail.
+fn failing(rt: &impl AllocGlobal, mut disk: MemDisk, zone: u32, nth: u64) -> Result<MemDisk, Fail> {
     let fail = Failing {
         call: DeviceCall::Read,
-        zone: Some(ZoneNo(2)),
+        zone: Some(ZoneNo(zone)),
         nth,
     };
     disk.fail_at(vec![in rt.alloc(); fail]?);
@@ -88,9 +86,90 @@ fn each_run_is_one_call_and_a_failed_one_is_told(rt: HostRuntime) -> Result<(), 
         (4, &second),
         (5, &none),
     ] {
-        let disk = failing(&rt, two_runs(&rt)?, nth)?;
+        let disk = failing(&rt, two_runs(&rt)?, 2, nth)?;
         expect(&rt, disk, script, output, 0)?;
     }
+    Ok(())
+}
+
+/// One block of two patterns, as a stop leaves it in the middle of a write.
+#[test]
+fn a_block_may_have_sectors_of_two_writes(rt: HostRuntime) -> Result<(), Fail> {
+    let data = Data {
+        zone: 2,
+        block: 0,
+        seed: 1,
+    };
+    let mut disk = with_chunk(&rt, 2, NONE, &[data])?;
+    let mut bytes = patterned(1, 0);
+    bytes[..2048].copy_from_slice(&patterned(2, 0)[..2048]);
+    put(&rt, &mut disk, 2, 0, &bytes)?;
+    let output = "0 1 0 r 0 1 data p2x4,p1x4 @0;end 0 ok;";
+    expect(&rt, disk, "r 0 0 1;", output, 0)?;
+    Ok(())
+}
+
+/// A block of data in a sequential zone.
+const SEQUENTIAL: Data = Data {
+    zone: 6,
+    block: 0,
+    seed: 1,
+};
+
+/// A block of data in a buffer.
+const BUFFERED: Data = Data {
+    zone: 2,
+    block: 3,
+    seed: 7,
+};
+
+#[test]
+fn a_sequential_zone_is_read_with_and_without_a_buffer(rt: HostRuntime) -> Result<(), Fail> {
+    let disk = with_chunk(&rt, 6, NONE, &[SEQUENTIAL])?;
+    let output = "0 1 0 r 0 1 data p1x8 @0;0 2 0 r 0 16 data p1x8,z120 @0;end 0 ok;";
+    expect_calls(&rt, disk, "r 0 0 1;r 0 0 16;", output, 4)?;
+    let disk = with_chunk(&rt, 6, 2, &[SEQUENTIAL, BUFFERED])?;
+    let output = "0 1 0 r 0 4 data p1x8,z16,p7x8 @0;end 0 ok;";
+    expect_calls(&rt, disk, "r 0 0 4;", output, 4)?;
+    Ok(())
+}
+
+/// The volume whose chunk 0 has blocks 0, 1 and 4 in zone 6, and blocks 3 and 5 in its buffer, zone 2.
+/// Both zones hold others too.
+fn in_turns(rt: &(impl Abort + AllocGlobal)) -> Result<MemDisk, Fail> {
+    let mut disk = fresh(rt)?;
+    put(rt, &mut disk, 0, 1, &map_block(0, 6, 2))?;
+    put(rt, &mut disk, 0, 8, &bitmap_of(0x13))?;
+    put(rt, &mut disk, 0, 4, &bitmap_of(0x28))?;
+    for block in 0..7 {
+        put(rt, &mut disk, 6, block, &patterned(1, block))?;
+        put(rt, &mut disk, 2, block, &patterned(7, block))?;
+    }
+    flush(&mut disk)?;
+    Ok(disk)
+}
+
+/// Two calls of each zone are made: of zone 6 for blocks 0 and 1, then 4; of zone 2 for block 3, then 5.
+#[test]
+fn a_buffered_chunk_is_read_from_both_places(rt: HostRuntime) -> Result<(), Fail> {
+    let whole = "r 0 16 data p1x16,z8,p7x8,p1x8,p7x8,z80 @0;";
+    let first = format!(in rt.alloc(); "0 1 0 r 0 16 fault @0;0 2 0 {whole}end 0 ok;")?;
+    let second = format!(in rt.alloc(); "0 1 0 {whole}0 2 0 r 0 16 fault @0;end 0 ok;")?;
+    let none = format!(in rt.alloc(); "0 1 0 {whole}0 2 0 {whole}end 0 ok;")?;
+    for zone in [6, 2] {
+        for (nth, output) in [
+            (1, &first),
+            (2, &first),
+            (3, &second),
+            (4, &second),
+            (5, &none),
+        ] {
+            let disk = failing(&rt, in_turns(&rt)?, zone, nth)?;
+            expect(&rt, disk, "r 0 0 16;r 0 0 16;", output, 0)?;
+        }
+    }
+    let output = "0 1 0 r 1 3 data p1x8,z8,p7x8 @0;0 2 0 r 4 1 data p1x8 @0;end 0 ok;";
+    expect(&rt, in_turns(&rt)?, "r 0 1 3;r 0 4 1;", output, 0)?;
     Ok(())
 }
 
@@ -130,5 +209,37 @@ fn a_zone_may_have_two_bitmap_blocks(rt: HostRuntime) -> Result<(), Fail> {
         end 0 ok;";
     expect(&rt, disk, "r 0 32766 4;r 0 65534 4;", output, 0)?;
     rt.remove_file("wide.img")?;
+    Ok(())
+}
+
+/// The wide volume in a file whose zone 4 is written up to block 32,767.
+fn wide_file(alloc: Global) -> Result<Vec<u8>, AllocError> {
+    let mut file = HEADER.to_vec(alloc)?;
+    file.resize(4112, 0)?;
+    file.extend_from_slice(&262_136u32.to_le_bytes())?;
+    Ok(file)
+}
+
+/// Of chunk 0 two blocks are valid in zone 4, on both sides of the bound between its bitmap blocks, and
+/// two in its buffer, zone 2.
+#[test]
+fn both_bitmap_blocks_of_a_buffered_chunk_count(rt: HostRuntime) -> Result<(), Fail> {
+    fs::write(&rt, "buffered.img", wide_file(rt.alloc())?.as_slice())?;
+    let mut disk = FileDisk::at(&rt, "buffered.img");
+    format(&rt, &mut disk, &WIDE)?;
+    put(&rt, &mut disk, 0, 1, &map_block(0, 4, 2))?;
+    let mut last = [0; 4096];
+    last[4095] = 0x80;
+    for (block, bits) in [(10, &last), (11, &bitmap_of(1)), (7, &bitmap_of(2))] {
+        put(&rt, &mut disk, 0, block, bits)?;
+    }
+    for (zone, block, seed) in [(4, 32_767, 5), (4, 32_768, 5), (2, 32_769, 6)] {
+        put(&rt, &mut disk, zone, block, &patterned(seed, block))?;
+    }
+    let output = "0 1 0 r 32766 5 data z8,p5x16,p6x8,z8 @0;end 0 ok;";
+    let mut disk = expect(&rt, disk, "r 0 32766 5;", output, 0)?;
+    put(&rt, &mut disk, 0, 7, &bitmap_of(1))?;
+    expect(&rt, disk, "", "end 3 volume bits 2 32768;", 3)?;
+    rt.remove_file("buffered.img")?;
     Ok(())
 }

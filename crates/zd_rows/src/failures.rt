@@ -30,9 +30,19 @@ fn failing(
 fn a_disk_that_fails_in_opening_ends_the_run(rt: HostRuntime) -> Result<(), Fail> {
     for (call, zone, nth) in [
         (DeviceCall::Geometry, None, 1),
+        (DeviceCall::Geometry, None, 2),
+        (DeviceCall::Flush, None, 1),
         (DeviceCall::Read, Some(ZoneNo(0)), 1),
         (DeviceCall::Read, Some(ZoneNo(0)), 2),
         (DeviceCall::Read, Some(ZoneNo(0)), 15),
+        (DeviceCall::Read, Some(ZoneNo(1)), 1),
+        (DeviceCall::Report, None, 1),
+        (DeviceCall::Report, Some(ZoneNo(11)), 1),
+        (DeviceCall::Read, Some(ZoneNo(1)), 2),
+        (DeviceCall::Read, Some(ZoneNo(1)), 14),
+        (DeviceCall::Flush, None, 2),
+        (DeviceCall::Write, Some(ZoneNo(1)), 1),
+        (DeviceCall::Flush, None, 3),
     ] {
         let disk = failing(&rt, call, zone, nth)?;
         let disk = expect(&rt, disk, "r 0 0 1;", "end 4 device;", 4)?;
@@ -86,6 +96,7 @@ fn a_sink_that_fails_is_told_where_nothing_else_was_wrong(rt: HostRuntime) -> Re
     expect_untold(&rt, &right, broken, "r 0 0 1;", &[], 4)?;
     let mut other = fresh(&rt)?;
     put(&rt, &mut other, 0, 0, &super_block(&SMALL, 16))?;
+    put(&rt, &mut other, 1, 0, &super_block(&SMALL, 0))?;
     expect_untold(&rt, &right, other, "r 0 0 1;", &[], 3)?;
     Ok(())
 }

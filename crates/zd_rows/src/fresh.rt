@@ -9,6 +9,7 @@ use zd_base::{Geometry, Kind, Layout, SECTOR, ZoneNo};
 use zd_disk::{Failed, ZonedDisk};
 use zd_memdisk::MemDisk;
 use zd_plain::pattern;
+use zd_sets::read_block;
 use zd_super::crc32_le;
 
 /// No zone, in an entry of a map.
@@ -66,13 +67,18 @@ pub fn map_block(i: usize, zone: u32, buffer: u32) -> [u8; 4096]
     block
 }
 
+/// A bitmap block with this first byte, for the first eight blocks of a zone.
+pub fn bitmap_of(first: u8) -> [u8; 4096] {
+    let mut block = [0; 4096];
+    block[0] = first;
+    block
+}
+
 /// A bitmap block of a zone of which one of the first eight blocks is valid.
 pub fn bitmap_block(valid: u8) -> [u8; 4096]
     requires { valid < 8 }
 {
-    let mut block = [0; 4096];
-    block[0] = 1 << valid;
-    block
+    bitmap_of(1 << valid)
 }
 
 /// Block `i` of a set of a volume that nobody wrote.
@@ -101,6 +107,21 @@ pub fn put<D: ZonedDisk>(
         assert!(rt; disk.report(ZoneNo(zone))? == 8 * block);
     }
     disk.write(ZoneNo(zone), 8 * block, bytes)
+}
+
+/// A block of a conventional zone as the disk reads.
+pub fn get<D: ZonedDisk>(
+    rt: &impl Abort,
+    disk: &mut D,
+    zone: u32,
+    block: u32,
+) -> Result<[u8; 4096], Failed> {
+    let geometry = disk.geometry()?;
+    assert!(rt; zone < geometry.conv());
+    assert!(rt; block < geometry.zone_blocks());
+    let mut bytes = [0; 4096];
+    read_block(disk, &geometry, ZoneNo(zone), block, &mut bytes)?;
+    Ok(bytes)
 }
 
 /// Makes all that was written outlast a stop.

@@ -1,10 +1,12 @@
 //! Whole runs over small volumes: what they print, and the status that they end with; and what crates
-//! make of whole disks: sets of metadata, openings, stops.
+//! make of whole disks: sets of metadata, openings.
 //!
 //! Tests alone stand here, above all the crates that they run through. In their texts `;` is the line
 //! feed byte.
 #![tactic(auto)]
 
+#[cfg(test)]
+mod compare;
 #[cfg(test)]
 mod data;
 #[cfg(test)]
@@ -20,6 +22,8 @@ mod image_file;
 #[cfg(test)]
 mod large;
 #[cfg(test)]
+mod opened;
+#[cfg(test)]
 mod opening;
 #[cfg(test)]
 mod reads;
@@ -30,4 +34,4 @@ mod run;
 #[cfg(test)]
 mod sets;
 #[cfg(test)]
-mod stops;
+mod two_zones;
