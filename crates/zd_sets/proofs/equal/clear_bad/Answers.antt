@@ -77,3 +77,6 @@ returns-clause-way g c =
     done_clear c.args.geometry.now c.args.zone c.args.good old new
     (cleared c.args.geometry.now c.args.zone c.args.good old middle new told (d.shaped c.args.disk.now old e) (d.shaped c.write.new.self middle m) c.requires.zone (omega arith) c.if-good.false wrote same))
     c.in_ok-write.ensures.ok c.flush.ensures.zones
+
+pub returns-clause-counted : goal.returns-clause-counted
+returns-clause-counted g c = ?

@@ -66,3 +66,6 @@ returns-clause-way g c =
     let same = Some-same _ _ (sym (d.agrees c.read_set_block.new.disk old e) ∙ read.told ∙ c.requires.told) in
     part_block shape first i block old new same (d.shaped middle old e) (omega arith) c.requires.inside c.requires.size w))
     c.write_block.ensures.err))
+
+pub returns-clause-counted : goal.returns-clause-counted
+returns-clause-counted g c = ?

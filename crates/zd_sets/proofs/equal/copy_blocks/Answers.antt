@@ -91,3 +91,6 @@ returns-clause-way g c =
     done_blocks shape c.args.first 1 c.args.end blocks old new
     (blocks_stay shape c.args.first (omega arith) old middle new told (d.shaped c.loop-i.disk middle m) same 1 c.args.end blocks c.requires.inside before))
     last c.flush.ensures.zones
+
+pub returns-clause-counted : goal.returns-clause-counted
+returns-clause-counted g c = ?

@@ -148,3 +148,6 @@ returns-clause-kept g c =
     way_keeps shape chosen old new told (d.shaped c.args.disk.now old e) (d.shaped c.put_super.new.disk new n) is c.requires.placed (c.requires.chosen old e)
     (way_put shape chosen bytes c.requires.placed (omega arith) old h.1.0 h.0 new told (c.requires.blocks old e) h.1.1 h.1.2 h.2))
     three
+
+pub returns-clause-counted : goal.returns-clause-counted
+returns-clause-counted g c = ?
