@@ -1,5 +1,5 @@
 -- How many writing calls the steps make, one after another.
-use Rattle.std.proofs.Common.{◌≡◌, Option, Some, ℕ, ◌+◌, ◌-◌, ◌*◌, ◌/◌, ◌%◌, ◌<◌, ◌≤◌, Bool, true, false, not, cond, List, map, sum_by, count_by, sum, refl, sym, ap, ap₂, ◌∙◌, inl, inr, arith}
+use Rattle.std.proofs.Common.{◌≡◌, Option, Some, ℕ, ◌+◌, ◌-◌, ◌/◌, ◌<◌, ◌≤◌, Bool, true, not, cond, List, [], map, sum_by, count_by, sum, sym, ap, ap₂, ◌∙◌, inl, inr, arith}
 use Rattle.std.specs.List.{range_with_len}
 use Rattle.std.specs.Str.{bytes_eq}
 use Rattle.std.proofs.lemmas.Bool.{cases_Bool}
@@ -16,8 +16,9 @@ use Rattle.zd_sets.specs.Calls.{Made, MadeOf, clear_calls, differ, differing, di
 use Rattle.zd_sets.specs.Choice.{IsPlaced}
 use Rattle.zd_sets.specs.declared.choice.Chosen.{Chosen as Choice}
 use Rattle.zd_sets.specs.Equal.{HasBlocks, InSet, IsCleared}
-use Rattle.zd_sets.proofs.EqualLaws.{here_inside, same_only, same_place, set_still, there_inside}
+use Rattle.zd_sets.proofs.EqualLaws.{here_inside, same_only, set_still, there_inside}
 use Rattle.zd_sets.proofs.StopLaws.{Both-first}
+use Rattle.zd_sets.proofs.WayLaws.{outside}
 
 sum_more : (f : ℕ → ℕ) (n k : ℕ) → 1 + n ≡ k → sum_by f (range_with_len 1 (n + 1)) ≡ sum_by f (range_with_len 1 n) + f k
 sum_more f n k e =
@@ -57,13 +58,6 @@ made_one a b e low = omega (arith, e, low)
 pub made_two : (a b c : ℕ) → b ≡ next_count a → c ≡ next_count b → Made a c 2
 made_two a b c e f low = omega (arith, e, f, low)
 
--- the block of a set at such a place
-in_set_at : (g : Shape) (first from end k : ℕ) → 0 < g.zone_blocks
-    → InSet g first from end (first + k / g.zone_blocks) (k % g.zone_blocks) → (from ≤ k) × (k < end)
-in_set_at g first from end k some at =
-    let e : k ≡ at.0 = same_place g.zone_blocks k at.0 some (omega (arith, at.3)) at.4 in
-    (omega (arith, at.1, e), omega (arith, at.2, e))
-
 -- one block more
 pub counted_more : (g : Shape) (first i : ℕ) (bytes : List ℕ) (o m : Option Image) (a b c : ℕ)
     → 0 < g.zone_blocks → 1 ≤ i → first + i / g.zone_blocks < g.conv → b ≤ c
@@ -75,7 +69,7 @@ pub counted_more : (g : Shape) (first i : ℕ) (bytes : List ℕ) (o m : Option 
 counted_more g first i bytes o m a b c some front inside later shape copied before here low image e =
     let there = Both-first o m (HasBlocks g first 1 i bytes) image copied e in
     let same = set_still g first (InSet g first 1 i) image there.0 some (shape image e) there.2.only i inside
-    (λ at. let p = in_set_at g first 1 i i some at in absurd (omega (arith, p.1))) in
+    (outside g first 1 i i some (inr (omega arith))) in
     let one = ap {B = ℕ} (λ (block : List ℕ). cond (differ block (blocks_of bytes i 1)) 1 0) same in
     let more = passing_more (λ k. differ (set_block image first k) (blocks_of bytes k 1)) i front in
     omega (arith, before (omega (arith, low, later)) image e, here low there.0 there.1, one, more)
@@ -85,3 +79,39 @@ pub counted_flush : (bytes : List ℕ) (first end : ℕ) (o : Option Image) (a b
     → MadeOf o a b (differing_from bytes first end) → MadeOf o a c (λ image. differing_from bytes first end image + 1)
 counted_flush bytes first end o a b c one before low image e =
     omega (arith, before (omega (arith, low, one)) image e, one, low)
+
+module _ (g : Shape) (choice : Choice) (placed : IsPlaced g choice) (some : 0 < g.zone_blocks) where
+  -- the blocks behind the first, as they read once the super block is cleared
+  differing_cleared : (bytes : List ℕ) (a b : Image) → a.geometry ≡ g → AreBlocks a choice.zone (used_blocks g choice.head.layout) bytes
+      → IsCleared g choice.other choice.other_good a b
+      → differing_from bytes choice.other (used_blocks g choice.head.layout) b ≡ differing choice (used_blocks g choice.head.layout) a
+  differing_cleared bytes a b shape blocks clear =
+      passing_same (λ k. differ (set_block b choice.other k) (blocks_of bytes k 1)) (λ k. differ (set_block a choice.other k) (set_block a choice.zone k)) (used_blocks g choice.head.layout)
+      (λ k low high. ap₂ differ
+      (set_still g choice.other (InSet g choice.other 0 1) a b some shape clear.only k (there_inside g choice [] placed some k high)
+      (outside g choice.other 0 1 k some (inr low)))
+      (blocks.each k high))
+
+  -- the three steps, one after another
+  pub counted_equal : (bytes : List ℕ) (o m : Option Image) (a b c d : ℕ) → b ≤ c → c ≤ d
+      → ((image : Image) → o ≡ Some image → image.geometry ≡ g)
+      → WhereTold o (λ image. AreBlocks image choice.zone (used_blocks g choice.head.layout) bytes)
+      → Both o m (IsCleared g choice.other choice.other_good)
+      → Made a b (clear_calls choice.other_good)
+      → MadeOf m b c (λ image. differing_from bytes choice.other (used_blocks g choice.head.layout) image + 1)
+      → Made c d 2 → MadeOf o a d (equal_calls choice (used_blocks g choice.head.layout))
+  counted_equal bytes o m a b c d later last shape blocks cleared one two three low image e =
+      let there = Both-first o m (IsCleared g choice.other choice.other_good) image cleared e in
+      let same = differing_cleared bytes image there.0 (shape image e) (blocks image e) there.2 in
+      omega (arith, one (omega (arith, low, later, last)), two (omega (arith, low, last)) there.0 there.1, three low, same)
+
+  -- an image that holds the same needs as many
+  pub equal_calls_same : (a b : Image) → a.geometry ≡ g → IsImage a → Same a b
+      → equal_calls choice (used_blocks g choice.head.layout) b ≡ equal_calls choice (used_blocks g choice.head.layout) a
+  equal_calls_same a b shape image same =
+      let only = same_only (λ _ _. ⊥) a b image same in
+      ap (λ (n : ℕ). clear_calls choice.other_good + n + 3)
+      (passing_same (λ k. differ (set_block b choice.other k) (set_block b choice.zone k)) (λ k. differ (set_block a choice.other k) (set_block a choice.zone k)) (used_blocks g choice.head.layout)
+      (λ k low high. ap₂ differ
+      (set_still g choice.other (λ _ _. ⊥) a b some shape only k (there_inside g choice [] placed some k high) (λ none. none))
+      (set_still g choice.zone (λ _ _. ⊥) a b some shape only k (here_inside g choice [] placed some k high) (λ none. none))))

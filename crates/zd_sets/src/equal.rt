@@ -160,8 +160,8 @@ fn put_super<D: ZonedDisk>(disk: &mut D, geometry: &Geometry, chosen: &Chosen) -
 /// differ are written, and last the super block, with the chosen fields and its own number; each of
 /// the three parts ends with a flush.
 ///
-/// It makes one writing call for each block behind the first that differs, and three more; and two more
-/// where the other super block is bad.
+/// Up to Ok it makes one writing call for each used block behind the first that differs, three more, and
+/// two more where the other super block is bad.
 ///
 /// After Ok a stop leaves what the disk reads as. Before, and at any answer, a stop leaves the disk
 /// changed in used blocks of the other set alone. At any answer a volume is one still, with the same
