@@ -1,5 +1,5 @@
 -- How many writing calls the steps make, one after another.
-use Rattle.std.proofs.Common.{◌≡◌, Option, Some, ℕ, ◌+◌, ◌-◌, ◌/◌, ◌<◌, ◌≤◌, Bool, true, not, cond, List, [], map, sum_by, count_by, sum, sym, ap, ap₂, ◌∙◌, inl, inr, arith}
+use Rattle.std.proofs.Common.{◌≡◌, Option, is_some, Some, ℕ, ◌+◌, ◌-◌, ◌/◌, ◌<◌, ◌≤◌, Bool, true, not, cond, List, [], map, sum_by, count_by, sum, sym, ap, ap₂, ◌∙◌, inl, inr, arith}
 use Rattle.std.specs.List.{range_with_len}
 use Rattle.std.specs.Str.{bytes_eq}
 use Rattle.std.proofs.lemmas.Bool.{cases_Bool}
@@ -9,14 +9,16 @@ use Rattle.std.proofs.lemmas.Slice.Eq.{bytes_eq-Decides}
 use Rattle.zd_base.specs.Geometry.{Shape}
 use Rattle.zd_base.specs.Layout.{used_blocks}
 use Rattle.zd_model.specs.Image.{Image, IsImage, Same, set_block}
-use Rattle.zd_model.proofs.SameLaws.{same_map}
+use Rattle.zd_model.specs.Volume.{good_super}
+use Rattle.zd_model.specs.declared.metadata.Super.{Super}
+use Rattle.zd_model.proofs.SameLaws.{same_block, same_map}
 use Rattle.zd_disk.specs.Told.{Both, WhereTold, next_count}
 use Rattle.zd_sets.specs.Blocks.{AreBlocks, blocks_of}
 use Rattle.zd_sets.specs.Calls.{Made, MadeOf, clear_calls, differ, differing, differing_from, equal_calls, passing}
 use Rattle.zd_sets.specs.Choice.{IsPlaced}
 use Rattle.zd_sets.specs.declared.choice.Chosen.{Chosen as Choice}
 use Rattle.zd_sets.specs.Equal.{HasBlocks, InSet, IsCleared}
-use Rattle.zd_sets.proofs.EqualLaws.{here_inside, same_only, set_still, there_inside}
+use Rattle.zd_sets.proofs.EqualLaws.{here_inside, same_good, same_only, set_still, there_inside}
 use Rattle.zd_sets.proofs.StopLaws.{Both-first}
 use Rattle.zd_sets.proofs.WayLaws.{outside}
 
@@ -95,22 +97,28 @@ module _ (g : Shape) (choice : Choice) (placed : IsPlaced g choice) (some : 0 < 
   -- the three steps, one after another
   pub counted_equal : (bytes : List ℕ) (o m : Option Image) (a b c d : ℕ) → b ≤ c → c ≤ d
       → ((image : Image) → o ≡ Some image → image.geometry ≡ g)
+      → WhereTold o (λ image. choice.other_good ≡ is_some (good_super image choice.other))
       → WhereTold o (λ image. AreBlocks image choice.zone (used_blocks g choice.head.layout) bytes)
       → Both o m (IsCleared g choice.other choice.other_good)
       → Made a b (clear_calls choice.other_good)
       → MadeOf m b c (λ image. differing_from bytes choice.other (used_blocks g choice.head.layout) image + 1)
       → Made c d 2 → MadeOf o a d (equal_calls choice (used_blocks g choice.head.layout))
-  counted_equal bytes o m a b c d later last shape blocks cleared one two three low image e =
+  counted_equal bytes o m a b c d later last shape good blocks cleared one two three low image e =
       let there = Both-first o m (IsCleared g choice.other choice.other_good) image cleared e in
       let same = differing_cleared bytes image there.0 (shape image e) (blocks image e) there.2 in
-      omega (arith, one (omega (arith, low, later, last)), two (omega (arith, low, last)) there.0 there.1, three low, same)
+      let clear = ap clear_calls (good image e) in
+      omega (arith, one (omega (arith, low, later, last)), two (omega (arith, low, last)) there.0 there.1, three low, same, clear)
 
   -- an image that holds the same needs as many
   pub equal_calls_same : (a b : Image) → a.geometry ≡ g → IsImage a → Same a b
       → equal_calls choice (used_blocks g choice.head.layout) b ≡ equal_calls choice (used_blocks g choice.head.layout) a
   equal_calls_same a b shape image same =
       let only = same_only (λ _ _. ⊥) a b image same in
-      ap (λ (n : ℕ). clear_calls choice.other_good + n + 3)
+      let conv = ap (λ (s : Shape). s.conv) shape in
+      let blocks = ap (λ (s : Shape). s.zone_blocks) shape in
+      let low = placed.other in
+      ap₂ (λ (o : Option Super) (n : ℕ). clear_calls (is_some o) + n + 3)
+      (same_good a b choice.other same.geometry (same_block a b image same choice.other 0 (omega (arith, conv)) (omega (arith, blocks))))
       (passing_same (λ k. differ (set_block b choice.other k) (set_block b choice.zone k)) (λ k. differ (set_block a choice.other k) (set_block a choice.zone k)) (used_blocks g choice.head.layout)
       (λ k low high. ap₂ differ
       (set_still g choice.other (λ _ _. ⊥) a b some shape only k (there_inside g choice [] placed some k high) (λ none. none))

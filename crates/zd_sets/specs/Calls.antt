@@ -1,8 +1,9 @@
 -- How many writing calls it takes to make the other set equal.
-use Rattle.std.specs.Prelude.{◌≡◌, ℕ, ◌+◌, ◌-◌, ◌<◌, ◌^◌, Bool, not, if◌then◌else◌, List, count_by, Option}
+use Rattle.std.specs.Prelude.{◌≡◌, ℕ, ◌+◌, ◌-◌, ◌<◌, ◌^◌, Bool, not, if◌then◌else◌, List, count_by, Option, is_some}
 use Rattle.std.specs.List.{range_with_len}
 use Rattle.std.specs.Str.{bytes_eq}
 use Rattle.zd_model.specs.Image.{Image, set_block}
+use Rattle.zd_model.specs.Volume.{good_super}
 use Rattle.zd_disk.specs.Told.{WhereTold}
 use Rattle.zd_sets.specs.Blocks.{blocks_of}
 use Rattle.zd_sets.specs.declared.choice.Chosen.{Chosen as Choice}
@@ -29,10 +30,10 @@ differing c end image =
 abbrev pub clear_calls : Bool → ℕ
 clear_calls good = if good then 0 else 2
 
--- the calls that make the other set equal: those that clear a bad super block, a write for each block
--- that differs, a flush, a write of the super block, and a flush
+-- the calls that make the other set equal: those that clear its super block where that is bad, a write
+-- for each block that differs, a flush, a write of the super block, and a flush
 abbrev pub equal_calls : Choice → ℕ → Image → ℕ
-equal_calls c end image = clear_calls c.other_good + differing c end image + 3
+equal_calls c end image = clear_calls (is_some (good_super image c.other)) + differing c end image + 3
 
 -- so many writing calls were made, while their count is below its end
 abbrev pub Made : ℕ → ℕ → ℕ → Type 0

@@ -164,5 +164,6 @@ returns-clause-counted g c =
     (g.D.ZonedDisk.calls c.args.disk.now) (g.D.ZonedDisk.calls c.clear_bad.new.disk) (g.D.ZonedDisk.calls c.copy_blocks.new.disk) (g.D.ZonedDisk.calls c.put_super.new.disk)
     c.copy_blocks.ensures.calls c.put_super.ensures.calls
     (λ image e. Some-same _ _ (sym (d.agrees c.args.disk.now image e) ∙ c.requires.told))
+    (λ image e. (c.requires.chosen image e).other_good)
     c.requires.blocks c.in_ok-clear_bad.ensures.ok c.in_ok-clear_bad.ensures.counted copied)
     c.put_super.ensures.counted
