@@ -75,3 +75,6 @@ returns-in-Err-make_equal-clause-kept g c =
     c.settle.ensures.zones
     (subst (λ (o : Option Image). Both o (g.D.ZonedDisk.zones c.make_equal.new.disk) (KeepsVolume (chosen_of volume.chosen)))
     c.examine.ensures.zones c.make_equal.ensures.kept)
+
+pub returns-in-Ok-make_equal-clause-counted : goal.returns-in-Ok-make_equal-clause-counted
+returns-in-Ok-make_equal-clause-counted g c = ?
