@@ -1,11 +1,11 @@
 -- What opening makes of a disk, and what it leaves of it.
 use Rattle.std.specs.Prelude.{◌≡◌, ◌⊎◌, ℕ, ◌+◌, List, Option}
 use Rattle.zd_base.specs.Geometry.{Shape}
+use Rattle.zd_base.specs.Layout.{used_blocks}
 use Rattle.zd_disk.specs.Told.{Both, next_count}
 use Rattle.zd_model.specs.Image.{Image, Same}
 use Rattle.zd_model.specs.Tables.{served}
 use Rattle.zd_model.specs.Volume.{Chosen as Set, IsWellFormed, content}
-use Rattle.zd_base.specs.Layout.{used_blocks}
 use Rattle.zd_sets.specs.Calls.{equal_calls}
 use Rattle.zd_sets.specs.Choice.{chosen_of}
 use Rattle.zd_sets.specs.Kept.{ServesSame}
