@@ -1,3 +1,4 @@
+pub mod CountLaws
 pub mod EntryLaws
 pub mod RoleLaws
 pub mod FindLaws

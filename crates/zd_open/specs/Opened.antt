@@ -1,10 +1,12 @@
 -- What opening makes of a disk, and what it leaves of it.
-use Rattle.std.specs.Prelude.{◌≡◌, ◌⊎◌, ℕ, List, Option}
+use Rattle.std.specs.Prelude.{◌≡◌, ◌⊎◌, ℕ, ◌+◌, List, Option}
 use Rattle.zd_base.specs.Geometry.{Shape}
+use Rattle.zd_base.specs.Layout.{used_blocks}
 use Rattle.zd_disk.specs.Told.{Both, next_count}
 use Rattle.zd_model.specs.Image.{Image, Same}
 use Rattle.zd_model.specs.Tables.{served}
 use Rattle.zd_model.specs.Volume.{Chosen as Set, IsWellFormed, content}
+use Rattle.zd_sets.specs.Calls.{equal_calls}
 use Rattle.zd_sets.specs.Choice.{chosen_of}
 use Rattle.zd_sets.specs.Kept.{ServesSame}
 use Rattle.zd_sets.specs.declared.choice.Chosen.{Chosen}
@@ -40,3 +42,7 @@ abbrev pub IsRefusal : OpenFault → Type 0
 IsRefusal Device = ⊥
 IsRefusal Memory = ⊥
 IsRefusal fault = Unit {0}
+
+-- the writing calls of an opening: a flush, and those that make the other set equal
+abbrev pub open_calls : Chosen → Image → ℕ
+open_calls c image = 1 + equal_calls c (used_blocks image.geometry c.head.layout) image

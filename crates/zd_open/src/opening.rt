@@ -5,9 +5,10 @@ ghost use Rattle.zd_base.specs.Faults.{HasCause};
 ghost use Rattle.zd_base.specs.Geometry.{IsShape};
 ghost use Rattle.zd_disk.specs.Told.{Both, WhereTold, next_count};
 ghost use Rattle.zd_model.specs.Image.{Same};
+ghost use Rattle.zd_sets.specs.Calls.{MadeOf};
 ghost use Rattle.zd_sets.specs.Equal.{IsDurable};
 ghost use Rattle.zd_open.specs.Examined.{Explains, HasDeviceCause, IsUsable};
-ghost use Rattle.zd_open.specs.Opened.{IsFlushed, IsKept, IsOpened, IsRefusal};
+ghost use Rattle.zd_open.specs.Opened.{IsFlushed, IsKept, IsOpened, IsRefusal, open_calls};
 
 use crate::{Image, OpenFault, examine};
 use std::alloc::Global;
@@ -35,12 +36,17 @@ fn settle<D: ZonedDisk>(disk: &mut D) -> Result<Geometry, Failed>
 /// `NoSuperBlock`, `Layout`, `BadMap` and `BadBits` come exactly where the disk is no volume, as
 /// [`examine`] tells them; the disk then had one flush and no write. After `Device` and `Memory`, too, a
 /// volume is the same one as before, with the same content.
+///
+/// Up to Ok it makes one writing call for each used block of the other set behind the first that differs,
+/// four more, and two more where the other super block is bad.
 pub fn open<D: ZonedDisk>(alloc: Global, disk: &mut D) -> Result<Image, OpenFault>
     ensures ok { IfOk result (λ v. Both (D.zones disk.old) (D.zones disk.new)
         (IsOpened v.geometry v.chosen v.blocks v.pointers.items)) }
     ensures usable { IfOk result (λ v. IsUsable v.geometry v.chosen v.blocks v.pointers.items) }
     ensures told { IfOk result (λ v. D.told disk.new ≡ Some v.geometry) }
     ensures err { IfErr result (λ fault. WhereTold (D.zones disk.old) (Explains fault)) }
+    ensures counted { IfOk result (λ v. MadeOf (D.zones disk.old) (D.calls disk.old) (D.calls disk.new)
+        (open_calls v.chosen)) }
     ensures kept { Both (D.zones disk.old) (D.zones disk.new) IsKept }
     ensures refused { IfErr result (λ fault. IsRefusal fault →
         IsFlushed (D.zones disk.old) (D.zones disk.new) (D.calls disk.old) (D.calls disk.new)) }

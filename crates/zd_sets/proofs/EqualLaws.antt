@@ -279,7 +279,7 @@ module _ (g : Shape) (choice : Choice) (bytes : List ℕ) (placed : IsPlaced g c
       let room = placed.fits.conventional_data in
       elim placed.places [ inl p ↦ omega (arith, p.2) | inr p ↦ omega (arith, p.2) ]
 
-  here_inside : (k : ℕ) → k < used_blocks g choice.head.layout → choice.zone + k / g.zone_blocks < g.conv
+  pub here_inside : (k : ℕ) → k < used_blocks g choice.head.layout → choice.zone + k / g.zone_blocks < g.conv
   here_inside k low =
       let one = in_zones g choice.head.layout placed.fits some k low in
       let room = placed.fits.conventional_data in

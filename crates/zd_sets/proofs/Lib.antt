@@ -1,4 +1,5 @@
 pub mod BlockLaws
+pub mod CallLaws
 pub mod ChoiceLaws
 pub mod ChosenLaws
 pub mod EqualLaws

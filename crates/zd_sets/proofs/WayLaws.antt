@@ -127,7 +127,7 @@ part_super g c end a b shape first second low some sizes ready w = record {
     ]
 
 -- a block before or behind others doesn't stand at the place of one of them
-outside : (g : Shape) (first from end k : ℕ) → 0 < g.zone_blocks → (k < from) ⊎ (end ≤ k)
+pub outside : (g : Shape) (first from end k : ℕ) → 0 < g.zone_blocks → (k < from) ⊎ (end ≤ k)
     → InSet g first from end (first + k / g.zone_blocks) (k % g.zone_blocks) → ⊥
 outside g first from end k some out at =
     let one = same_place g.zone_blocks k at.0 some (omega (arith, at.3)) at.4 in

@@ -1,11 +1,13 @@
 //! The other set made equal to the chosen one.
 
-ghost use Rattle.std.specs.Prelude.{◌≡◌, ◌+◌, ◌*◌, ◌/◌, ◌<◌, ◌≤◌, ℕ, Some, IsSomeAnd, OnOk, length};
+ghost use Rattle.std.specs.Prelude.{◌≡◌, ◌+◌, ◌*◌, ◌/◌, ◌<◌, ◌≤◌, ℕ, Some, IsSomeAnd, OnOk, if◌then◌else◌, length};
 ghost use Rattle.zd_base.specs.Faults.{HasCause};
 ghost use Rattle.zd_base.specs.Layout.{used_blocks};
 ghost use Rattle.zd_disk.specs.Told.{Both, WhereTold};
+ghost use Rattle.zd_model.specs.Image.{set_block};
 ghost use Rattle.zd_model.specs.Super.{HasSizes};
 ghost use Rattle.zd_sets.specs.Blocks.{AreBlocks};
+ghost use Rattle.zd_sets.specs.Calls.{Made, MadeOf, clear_calls, differ, differing_from, equal_calls};
 ghost use Rattle.zd_sets.specs.Choice.{IsChoice, IsPlaced, chosen_of};
 ghost use Rattle.zd_sets.specs.Kept.{HasPartOfBlock, HasPartOfBlocks, HasPartOfSuper, IsPartCleared, KeepsVolume};
 ghost use Rattle.zd_sets.specs.Equal.{EachLeft, HasBlock, HasBlocks, HasSuper, InSet, IsCleared, IsDurable, IsMadeEqual, IsReady, StopsLeaveOnly, head_at};
@@ -35,6 +37,8 @@ fn copy_block<D: ZonedDisk>(
         (HasPartOfBlock geometry.now first i block.now) }
     ensures told { D.told disk.new ≡ D.told disk.old }
     ensures calls { D.calls disk.old ≤ D.calls disk.new }
+    ensures counted { OnOk result (MadeOf (D.zones disk.old) (D.calls disk.old) (D.calls disk.new)
+        (λ image. if differ (set_block image first i) block.now then 1 else 0)) }
     ensures left { StopsLeaveOnly (InSet geometry.now first i (i + 1))
         (D.zones disk.old) (D.calls disk.old) (D.left disk.old) (D.calls disk.new) (D.left disk.new) }
     ensures cause { HasCause (D.faults disk.old) (D.faults disk.new) result }
@@ -69,6 +73,8 @@ fn copy_blocks<D: ZonedDisk>(
         (HasPartOfBlocks geometry.now first 1 end blocks.now) }
     ensures told { D.told disk.new ≡ D.told disk.old }
     ensures calls { D.calls disk.old ≤ D.calls disk.new }
+    ensures counted { OnOk result (MadeOf (D.zones disk.old) (D.calls disk.old) (D.calls disk.new)
+        (λ image. differing_from blocks.now first end image + 1)) }
     ensures left { StopsLeaveOnly (InSet geometry.now first 1 end)
         (D.zones disk.old) (D.calls disk.old) (D.left disk.old) (D.calls disk.new) (D.left disk.new) }
     ensures durable { OnOk result (IsDurable (D.zones disk.new) (D.calls disk.new) (D.left disk.new)) }
@@ -97,6 +103,7 @@ fn clear_bad<D: ZonedDisk>(
     ensures way { Both (D.zones disk.old) (D.zones disk.new) (IsPartCleared geometry.now zone good) }
     ensures told { D.told disk.new ≡ D.told disk.old }
     ensures calls { D.calls disk.old ≤ D.calls disk.new }
+    ensures counted { OnOk result (Made (D.calls disk.old) (D.calls disk.new) (clear_calls good)) }
     ensures left { StopsLeaveOnly (InSet geometry.now zone 0 1)
         (D.zones disk.old) (D.calls disk.old) (D.left disk.old) (D.calls disk.new) (D.left disk.new) }
     ensures cause { HasCause (D.faults disk.old) (D.faults disk.new) result }
@@ -135,6 +142,7 @@ fn put_super<D: ZonedDisk>(disk: &mut D, geometry: &Geometry, chosen: &Chosen) -
     ensures way { Both (D.zones disk.old) (D.zones disk.new) (HasPartOfSuper geometry.now chosen.now) }
     ensures told { D.told disk.new ≡ D.told disk.old }
     ensures calls { D.calls disk.old ≤ D.calls disk.new }
+    ensures counted { OnOk result (Made (D.calls disk.old) (D.calls disk.new) 2) }
     ensures left { StopsLeaveOnly (InSet geometry.now chosen.now.other 0 1)
         (D.zones disk.old) (D.calls disk.old) (D.left disk.old) (D.calls disk.new) (D.left disk.new) }
     ensures durable { OnOk result (IsDurable (D.zones disk.new) (D.calls disk.new) (D.left disk.new)) }
@@ -151,6 +159,9 @@ fn put_super<D: ZonedDisk>(disk: &mut D, geometry: &Geometry, chosen: &Chosen) -
 /// Where the other super block is bad, its first sector is made zeros first. Then the blocks that
 /// differ are written, and last the super block, with the chosen fields and its own number; each of
 /// the three parts ends with a flush.
+///
+/// Up to Ok it makes one writing call for each used block behind the first that differs, three more, and
+/// two more where the other super block is bad.
 ///
 /// After Ok a stop leaves what the disk reads as. Before, and at any answer, a stop leaves the disk
 /// changed in used blocks of the other set alone. At any answer a volume is one still, with the same
@@ -172,6 +183,8 @@ pub fn make_equal<D: ZonedDisk>(
     ensures kept { Both (D.zones disk.old) (D.zones disk.new) (KeepsVolume (chosen_of chosen.now)) }
     ensures told { D.told disk.new ≡ D.told disk.old }
     ensures calls { D.calls disk.old ≤ D.calls disk.new }
+    ensures counted { OnOk result (MadeOf (D.zones disk.old) (D.calls disk.old) (D.calls disk.new)
+        (equal_calls chosen.now (used_blocks geometry.now chosen.now.head.layout))) }
     ensures left { StopsLeaveOnly (InSet geometry.now chosen.now.other 0 (used_blocks geometry.now chosen.now.head.layout))
         (D.zones disk.old) (D.calls disk.old) (D.left disk.old) (D.calls disk.new) (D.left disk.new) }
     ensures durable { OnOk result (IsDurable (D.zones disk.new) (D.calls disk.new) (D.left disk.new)) }

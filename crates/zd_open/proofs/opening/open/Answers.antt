@@ -1,5 +1,5 @@
-use Rattle.std.proofs.Common.{Option, sym, ◌∙◌, subst, inr}
-use Rattle.zd_base.specs.Geometry.{IsShape}
+use Rattle.std.proofs.Common.{Option, ap, sym, ◌∙◌, subst, inr, arith}
+use Rattle.zd_base.specs.Geometry.{IsShape, Shape}
 use Rattle.zd_base.specs.Layout.{used_blocks}
 use Rattle.zd_model.specs.Image.{Image, Same}
 use Rattle.zd_disk.proofs.ToldLaws.{Some-same}
@@ -9,6 +9,7 @@ use Rattle.zd_sets.proofs.StopLaws.{Both-first}
 use Rattle.zd_sets.specs.Choice.{chosen_of}
 use Rattle.zd_sets.specs.Kept.{KeepsVolume}
 use Rattle.zd_open.specs.Opened.{IsKept, IsOpened}
+use Rattle.zd_open.proofs.CountLaws.{counted_open}
 use Rattle.zd_open.proofs.OpenedLaws.{blocks_of_set, both_then, choice_of, explains_same, opened, same_volume}
 use Rattle.zd_open.proofs.opening.open.Goals as goal
 
@@ -75,3 +76,19 @@ returns-in-Err-make_equal-clause-kept g c =
     c.settle.ensures.zones
     (subst (λ (o : Option Image). Both o (g.D.ZonedDisk.zones c.make_equal.new.disk) (KeepsVolume (chosen_of volume.chosen)))
     c.examine.ensures.zones c.make_equal.ensures.kept)
+
+pub returns-in-Ok-make_equal-clause-counted : goal.returns-in-Ok-make_equal-clause-counted
+returns-in-Ok-make_equal-clause-counted g c =
+    let d = g.met.D.ZonedDisk in
+    let volume = c.in-Ok-examine.image in
+    counted_open volume.geometry volume.chosen c.in-Ok-examine.ensures.usable.placed (g.D.ZonedDisk.zones c.args.disk.now) (g.D.ZonedDisk.zones c.examine.new.disk)
+    (g.D.ZonedDisk.calls c.args.disk.now) (g.D.ZonedDisk.calls c.examine.new.disk) (g.D.ZonedDisk.calls c.make_equal.new.disk)
+    (c.examine.ensures.calls ∙ c.in-Ok.ensures.calls) c.make_equal.ensures.calls
+    (subst (λ (o : Option Image). Both (g.D.ZonedDisk.zones c.args.disk.now) o Same) (sym c.examine.ensures.zones) c.settle.ensures.zones)
+    (λ old middle from via same.
+    let here = sym c.examine.ensures.zones ∙ via in
+    let told = Some-same _ _ (sym c.in-Ok.ensures.told ∙ d.agrees c.settle.new.disk middle here) in
+    let shape = subst IsShape (told ∙ same.geometry) c.in-Ok.ensures.shape in
+    let geometry = (c.in-Ok-examine.ensures.ok middle here).geometry ∙ same.geometry in
+    (sym geometry, d.shaped c.args.disk.now old from, omega (arith, shape.size.least, ap (λ (h : Shape). h.zone_blocks) geometry)))
+    c.in-Ok-make_equal.ensures.counted

@@ -1,11 +1,13 @@
-use Rattle.std.proofs.Common.{ℕ, ◌≡◌, ◌≤◌, replicate, sym, ap, ◌∙◌, arith}
+use Rattle.std.proofs.Common.{ℕ, ◌≡◌, ◌+◌, ◌≤◌, Bool, replicate, sym, ap, ◌∙◌, arith}
 use Rattle.std.proofs.lemmas.List.{length-replicate}
 use Rattle.zd_base.specs.Geometry.{Shape}
 use Rattle.zd_model.specs.Image.{Image, Same}
 use Rattle.zd_disk.proofs.ToldLaws.{IfSome-each, Some-same}
 use Rattle.zd_disk.specs.Steps.{Wrote}
+use Rattle.zd_sets.specs.Calls.{clear_calls}
 use Rattle.zd_sets.specs.Equal.{InSet, IsCleared}
 use Rattle.zd_sets.specs.Kept.{IsPartCleared}
+use Rattle.zd_sets.proofs.CallLaws.{made_two}
 use Rattle.zd_sets.proofs.EqualLaws.{Both-then, at_front, cleared, ok_anyway}
 use Rattle.zd_sets.proofs.StopLaws.{stops_flush, stops_more, stops_then, stops_write}
 use Rattle.zd_sets.proofs.WayLaws.{done_clear, part_clear}
@@ -77,3 +79,8 @@ returns-clause-way g c =
     done_clear c.args.geometry.now c.args.zone c.args.good old new
     (cleared c.args.geometry.now c.args.zone c.args.good old middle new told (d.shaped c.args.disk.now old e) (d.shaped c.write.new.self middle m) c.requires.zone (omega arith) c.if-good.false wrote same))
     c.in_ok-write.ensures.ok c.flush.ensures.zones
+
+pub returns-clause-counted : goal.returns-clause-counted
+returns-clause-counted g c = ok_anyway c.flush.result (λ low.
+    made_two (g.D.ZonedDisk.calls c.args.disk.now) (g.D.ZonedDisk.calls c.write.new.self) (g.D.ZonedDisk.calls c.flush.new.self) c.write.ensures.calls c.flush.ensures.calls low
+    ∙ ap (λ (good : Bool). g.D.ZonedDisk.calls c.args.disk.now + clear_calls good) (sym c.if-good.false))

@@ -1,11 +1,13 @@
-use Rattle.std.proofs.Common.{◌≡◌, ◌+◌, ◌/◌, ◌%◌, Option, OnOk, sym, ◌∙◌, subst, arith}
+use Rattle.std.proofs.Common.{ℕ, ◌≡◌, ◌+◌, ◌/◌, ◌%◌, Option, OnOk, Bool, true≢false, cond, ap, sym, ◌∙◌, subst, arith}
 use Rattle.std.proofs.lemmas.Result.{on_err_weaker, on_ok_weaker}
-use Rattle.zd_model.specs.Image.{Image}
+use Rattle.std.proofs.lemmas.Slice.Eq.{bytes_eq-Decides}
+use Rattle.zd_model.specs.Image.{Image, set_block}
 use Rattle.zd_disk.proofs.ToldLaws.{Some-same}
 use Rattle.zd_disk.specs.Told.{Both}
 use Rattle.zd_sets.specs.Equal.{HasBlock, InSet}
+use Rattle.zd_sets.proofs.CallLaws.{differ_apart, made_one}
 use Rattle.zd_sets.specs.Kept.{HasPartOfBlock}
-use Rattle.zd_sets.proofs.EqualLaws.{wrote_has}
+use Rattle.zd_sets.proofs.EqualLaws.{ok_anyway, wrote_has}
 use Rattle.zd_sets.proofs.StopLaws.{stops_after_read, stops_more, stops_write}
 use Rattle.zd_sets.proofs.WayLaws.{done_block, either_way, part_block}
 use Rattle.zd_sets.proofs.WriteLaws.{Both-more}
@@ -66,3 +68,14 @@ returns-clause-way g c =
     let same = Some-same _ _ (sym (d.agrees c.read_set_block.new.disk old e) ∙ read.told ∙ c.requires.told) in
     part_block shape first i block old new same (d.shaped middle old e) (omega arith) c.requires.inside c.requires.size w))
     c.write_block.ensures.err))
+
+pub returns-clause-counted : goal.returns-clause-counted
+returns-clause-counted g c =
+    let read = c.in_ok-read_set_block.ensures in
+    let block = c.args.block.now in
+    ok_anyway c.write_block.result (λ low image e.
+    let there = c.as_slice.ensures ∙ read.value image e in
+    let other = differ_apart (set_block image c.args.first c.args.i) block (λ same.
+    absurd (true≢false (sym ((bytes_eq-Decides block c.as_slice.result.now).1 (sym same ∙ sym there)) ∙ sym c.eq.ensures ∙ c.if-eq.false))) in
+    let one = ap {B = ℕ} (λ (b : Bool). cond b 1 0) other in
+    omega (arith, made_one (g.D.ZonedDisk.calls c.read_set_block.new.disk) (g.D.ZonedDisk.calls c.write_block.new.disk) c.write_block.ensures.calls low, read.calls, one))

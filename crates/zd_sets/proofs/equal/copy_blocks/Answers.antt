@@ -1,9 +1,11 @@
-use Rattle.std.proofs.Common.{◌≡◌, ◌+◌, List, ℕ, sym, ◌∙◌, subst, arith}
-use Rattle.zd_model.specs.Image.{Same}
+use Rattle.std.proofs.Common.{◌≡◌, ◌+◌, List, ℕ, cond, sym, ◌∙◌, subst, arith}
+use Rattle.zd_model.specs.Image.{Same, set_block}
 use Rattle.zd_disk.proofs.ToldLaws.{Some-same}
 use Rattle.zd_disk.specs.Told.{Both}
+use Rattle.zd_sets.specs.Calls.{MadeOf, differ, differing_from}
 use Rattle.zd_sets.specs.Equal.{HasBlock, HasBlocks, InSet}
 use Rattle.zd_sets.specs.Kept.{HasPartOfBlock, HasPartOfBlocks}
+use Rattle.zd_sets.proofs.CallLaws.{counted_flush, counted_more}
 use Rattle.zd_sets.proofs.EqualLaws.{Both-then, blocks_stay, copied_more, ok_anyway}
 use Rattle.zd_sets.proofs.StopLaws.{stops_flush, stops_more, stops_then}
 use Rattle.zd_sets.proofs.WayLaws.{blocks_then_part, done_blocks}
@@ -23,6 +25,12 @@ loop-i-preserved g c =
           c.loop-i.invariant.more c.copy_block.ensures.calls c.loop-i.invariant.copied c.loop-i.invariant.left
           (stops_more (InSet shape c.args.first c.loop-i.i (c.loop-i.i + 1)) (InSet shape c.args.first 1 c.args.end) (g.D.ZonedDisk.zones c.loop-i.disk) (g.D.ZonedDisk.calls c.loop-i.disk) (g.D.ZonedDisk.calls c.copy_block.new.disk) (g.D.ZonedDisk.left c.loop-i.disk) (g.D.ZonedDisk.left c.copy_block.new.disk)
           (λ z x p. (p.0, omega (arith, p.1), omega (arith, p.2), p.3, p.4)) c.copy_block.ensures.left);
+      counted = counted_more shape c.args.first c.loop-i.i blocks (g.D.ZonedDisk.zones c.args.disk.now) (g.D.ZonedDisk.zones c.loop-i.disk) (g.D.ZonedDisk.calls c.args.disk.now) (g.D.ZonedDisk.calls c.loop-i.disk) (g.D.ZonedDisk.calls c.copy_block.new.disk)
+          (omega arith) (omega arith) (c.requires.inside c.loop-i.i (omega arith)) c.copy_block.ensures.calls
+          (λ image e. Some-same _ _ (sym (d.agrees c.args.disk.now image e) ∙ c.requires.told))
+          c.loop-i.invariant.copied c.loop-i.invariant.counted
+          (subst (λ (block : List ℕ). MadeOf (g.D.ZonedDisk.zones c.loop-i.disk) (g.D.ZonedDisk.calls c.loop-i.disk) (g.D.ZonedDisk.calls c.copy_block.new.disk)
+          (λ image. cond (differ (set_block image c.args.first c.loop-i.i) block) 1 0)) c.block.ensures c.in_ok-copy_block.ensures.counted);
       copied = Both-then _ _ _ (HasBlocks shape c.args.first 1 c.loop-i.i blocks) (HasBlock shape c.args.first c.loop-i.i c.block.result.now) (HasBlocks shape c.args.first 1 (c.loop-i.i + 1) blocks)
           (λ old middle new e m before here.
           let same = Some-same _ _ (sym (d.agrees c.args.disk.now old e) ∙ c.requires.told) in
@@ -91,3 +99,12 @@ returns-clause-way g c =
     done_blocks shape c.args.first 1 c.args.end blocks old new
     (blocks_stay shape c.args.first (omega arith) old middle new told (d.shaped c.loop-i.disk middle m) same 1 c.args.end blocks c.requires.inside before))
     last c.flush.ensures.zones
+
+pub returns-clause-counted : goal.returns-clause-counted
+returns-clause-counted g c =
+    let blocks = c.args.blocks.now in
+    let end : c.loop-i.i ≡ c.args.end = omega arith in
+    let last = subst (λ (n : ℕ). MadeOf (g.D.ZonedDisk.zones c.args.disk.now) (g.D.ZonedDisk.calls c.args.disk.now) (g.D.ZonedDisk.calls c.loop-i.disk) (differing_from blocks c.args.first n)) end
+    c.loop-i.invariant.counted in
+    ok_anyway c.flush.result (counted_flush blocks c.args.first c.args.end (g.D.ZonedDisk.zones c.args.disk.now) (g.D.ZonedDisk.calls c.args.disk.now) (g.D.ZonedDisk.calls c.loop-i.disk) (g.D.ZonedDisk.calls c.flush.new.self)
+    c.flush.ensures.calls last)

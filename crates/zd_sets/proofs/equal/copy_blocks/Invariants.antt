@@ -1,5 +1,6 @@
 use Rattle.std.proofs.Common.{◌≡◌, ◌≤◌}
 use Rattle.zd_disk.specs.Told.{Both}
+use Rattle.zd_sets.specs.Calls.{MadeOf, differing_from}
 use Rattle.zd_sets.specs.Equal.{HasBlocks, InSet, StopsLeaveOnly}
 use Rattle.zd_sets.proofs.equal.copy_blocks.Given as goal
 
@@ -12,5 +13,6 @@ invariant-loop-i g l =
       later : d.faults l.fn.disk ≤ d.faults l.disk;
       more : d.calls l.fn.disk ≤ d.calls l.disk;
       left : StopsLeaveOnly (InSet l.geometry l.first 1 l.end) (d.zones l.fn.disk) (d.calls l.fn.disk) (d.left l.fn.disk) (d.calls l.disk) (d.left l.disk);
+      counted : MadeOf (d.zones l.fn.disk) (d.calls l.fn.disk) (d.calls l.disk) (differing_from l.blocks l.first l.i);
       copied : Both (d.zones l.fn.disk) (d.zones l.disk) (HasBlocks l.geometry l.first 1 l.i l.blocks);
     }

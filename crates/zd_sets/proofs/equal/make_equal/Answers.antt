@@ -1,12 +1,14 @@
-use Rattle.std.proofs.Common.{ℕ, sym, ◌∙◌, subst, arith}
+use Rattle.std.proofs.Common.{ℕ, ◌+◌, sym, ◌∙◌, subst, arith}
 use Rattle.std.proofs.lemmas.Result.{on_ok_weaker}
 use Rattle.zd_base.specs.Layout.{used_blocks}
 use Rattle.zd_model.specs.Image.{Image}
 use Rattle.zd_disk.proofs.ToldLaws.{Both-new, Some-same}
 use Rattle.zd_disk.specs.Told.{Both}
+use Rattle.zd_sets.specs.Calls.{MadeOf, differing_from}
 use Rattle.zd_sets.specs.Choice.{chosen_of}
 use Rattle.zd_sets.specs.Equal.{HasBlocks, HasSuper, InSet, IsCleared, IsMadeEqual}
 use Rattle.zd_sets.specs.Kept.{HasPartOfBlocks, HasPartOfSuper, IsPartCleared, KeepsVolume}
+use Rattle.zd_sets.proofs.CallLaws.{counted_equal}
 use Rattle.zd_sets.proofs.EqualLaws.{Both-then, made_equal, ready, still_ready}
 use Rattle.zd_sets.proofs.StopLaws.{stops_more, stops_then}
 use Rattle.zd_sets.proofs.WayLaws.{Both-told, Both-two, way_cleared, way_copied, way_keeps, way_put}
@@ -148,3 +150,20 @@ returns-clause-kept g c =
     way_keeps shape chosen old new told (d.shaped c.args.disk.now old e) (d.shaped c.put_super.new.disk new n) is c.requires.placed (c.requires.chosen old e)
     (way_put shape chosen bytes c.requires.placed (omega arith) old h.1.0 h.0 new told (c.requires.blocks old e) h.1.1 h.1.2 h.2))
     three
+
+pub returns-clause-counted : goal.returns-clause-counted
+returns-clause-counted g c =
+    let d = g.met.D.ZonedDisk in
+    let size = c.zone_blocks-zone_blocks.ensures.shape.size.least in
+    let shape = c.args.geometry.now in
+    let chosen = c.args.chosen.now in
+    let bytes = c.args.blocks.now in
+    let copied = subst (λ (n : ℕ). MadeOf (g.D.ZonedDisk.zones c.clear_bad.new.disk) (g.D.ZonedDisk.calls c.clear_bad.new.disk) (g.D.ZonedDisk.calls c.copy_blocks.new.disk) (λ image. differing_from bytes chosen.other n image + 1))
+    c.used_blocks-used.ensures c.in_ok-copy_blocks.ensures.counted in
+    on_ok_weaker c.put_super.result (counted_equal shape chosen c.requires.placed (omega arith) bytes (g.D.ZonedDisk.zones c.args.disk.now) (g.D.ZonedDisk.zones c.clear_bad.new.disk)
+    (g.D.ZonedDisk.calls c.args.disk.now) (g.D.ZonedDisk.calls c.clear_bad.new.disk) (g.D.ZonedDisk.calls c.copy_blocks.new.disk) (g.D.ZonedDisk.calls c.put_super.new.disk)
+    c.copy_blocks.ensures.calls c.put_super.ensures.calls
+    (λ image e. Some-same _ _ (sym (d.agrees c.args.disk.now image e) ∙ c.requires.told))
+    (λ image e. (c.requires.chosen image e).other_good)
+    c.requires.blocks c.in_ok-clear_bad.ensures.ok c.in_ok-clear_bad.ensures.counted copied)
+    c.put_super.ensures.counted
