@@ -5,6 +5,7 @@ pub mod EqualLaws
 pub mod KeptLaws
 pub mod MagicLaws
 pub mod MixLaws
+pub mod SafeLaws
 pub mod StopLaws
 pub mod VolumeLaws
 pub mod WayLaws
