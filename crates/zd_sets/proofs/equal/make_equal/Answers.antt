@@ -21,7 +21,7 @@ returns-clause-ok g c =
     let chosen = c.args.chosen.now in
     let bytes = c.args.blocks.now in
     let end : ℕ = used_blocks shape chosen.head.layout in
-    let copied = subst (λ (n : ℕ). Both (g.D.ZonedDisk.zones c.clear_bad.new.disk) (g.D.ZonedDisk.zones c.copy_blocks.new.disk) (HasBlocks shape chosen.other 1 n bytes)) c.used_blocks-used.ensures c.in_ok-copy_blocks.ensures.ok in
+    let copied = subst (λ (n : ℕ). Both (g.D.ZonedDisk.zones c.clear_bad.new.disk) (g.D.ZonedDisk.zones c.copy_blocks.new.disk) (HasBlocks shape chosen.other 1 n bytes)) {y = used_blocks shape chosen.head.layout} c.used_blocks-used.ensures c.in_ok-copy_blocks.ensures.ok in
     let two = Both-then _ _ _ (IsCleared shape chosen.other chosen.other_good) (HasBlocks shape chosen.other 1 (used_blocks shape chosen.head.layout) bytes)
     (λ a k. (b : Image) × IsCleared shape chosen.other chosen.other_good a b × HasBlocks shape chosen.other 1 (used_blocks shape chosen.head.layout) bytes b k)
     (λ a b k e m clear blocks. (b, clear, blocks)) c.in_ok-clear_bad.ensures.ok copied in
@@ -40,7 +40,7 @@ put_super-requires-clause-ready g c = λ low middle m image can.
     let shape = c.args.geometry.now in
     let chosen = c.args.chosen.now in
     let bytes = c.args.blocks.now in
-    let copied = subst (λ (n : ℕ). Both (g.D.ZonedDisk.zones c.clear_bad.new.disk) (g.D.ZonedDisk.zones c.copy_blocks.new.disk) (HasBlocks shape chosen.other 1 n bytes)) c.used_blocks-used.ensures c.in_ok-copy_blocks.ensures.ok in
+    let copied = subst (λ (n : ℕ). Both (g.D.ZonedDisk.zones c.clear_bad.new.disk) (g.D.ZonedDisk.zones c.copy_blocks.new.disk) (HasBlocks shape chosen.other 1 n bytes)) {y = used_blocks shape chosen.head.layout} c.used_blocks-used.ensures c.in_ok-copy_blocks.ensures.ok in
     let two = Both-then _ _ _ (IsCleared shape chosen.other chosen.other_good) (HasBlocks shape chosen.other 1 (used_blocks shape chosen.head.layout) bytes)
     (λ a k. (b : Image) × IsCleared shape chosen.other chosen.other_good a b × HasBlocks shape chosen.other 1 (used_blocks shape chosen.head.layout) bytes b k)
     (λ a b k e h clear blocks. (b, clear, blocks)) c.in_ok-clear_bad.ensures.ok copied in
@@ -58,7 +58,7 @@ put_super-requires-clause-now g c = λ middle m.
     let shape = c.args.geometry.now in
     let chosen = c.args.chosen.now in
     let bytes = c.args.blocks.now in
-    let copied = subst (λ (n : ℕ). Both (g.D.ZonedDisk.zones c.clear_bad.new.disk) (g.D.ZonedDisk.zones c.copy_blocks.new.disk) (HasBlocks shape chosen.other 1 n bytes)) c.used_blocks-used.ensures c.in_ok-copy_blocks.ensures.ok in
+    let copied = subst (λ (n : ℕ). Both (g.D.ZonedDisk.zones c.clear_bad.new.disk) (g.D.ZonedDisk.zones c.copy_blocks.new.disk) (HasBlocks shape chosen.other 1 n bytes)) {y = used_blocks shape chosen.head.layout} c.used_blocks-used.ensures c.in_ok-copy_blocks.ensures.ok in
     let two = Both-two _ _ _ (IsCleared shape chosen.other chosen.other_good) (HasBlocks shape chosen.other 1 (used_blocks shape chosen.head.layout) bytes)
     c.in_ok-clear_bad.ensures.ok copied in
     let from = Both-new _ _ (λ a k. (b : Image) × IsCleared shape chosen.other chosen.other_good a b × HasBlocks shape chosen.other 1 (used_blocks shape chosen.head.layout) bytes b k) middle two m in
@@ -92,7 +92,7 @@ returns-in_err-copy_blocks-clause-left g c =
     (stops_more (IsPartCleared shape chosen.other chosen.other_good) (OnlyAt (InSet shape chosen.other 0 (used_blocks shape chosen.head.layout))) shape (g.D.ZonedDisk.told c.args.disk.now) (g.D.ZonedDisk.zones c.args.disk.now) (g.D.ZonedDisk.calls c.args.disk.now) (g.D.ZonedDisk.calls c.clear_bad.new.disk) (g.D.ZonedDisk.left c.args.disk.now) (g.D.ZonedDisk.left c.clear_bad.new.disk) c.requires.told (d.leaves c.args.disk.now)
     (λ before after same h. clear_only shape chosen bytes is placed before after h) c.clear_bad.ensures.left)
     (stops_more (HasPartOfBlocks shape chosen.other 1 (used_blocks shape chosen.head.layout) bytes) (OnlyAt (InSet shape chosen.other 0 (used_blocks shape chosen.head.layout))) shape (g.D.ZonedDisk.told c.clear_bad.new.disk) (g.D.ZonedDisk.zones c.clear_bad.new.disk) (g.D.ZonedDisk.calls c.clear_bad.new.disk) (g.D.ZonedDisk.calls c.copy_blocks.new.disk) (g.D.ZonedDisk.left c.clear_bad.new.disk) (g.D.ZonedDisk.left c.copy_blocks.new.disk) (c.in_ok-clear_bad.ensures.told ∙ c.requires.told) (d.leaves c.clear_bad.new.disk)
-    (λ before after same h. blocks_only shape chosen bytes is placed before after h) (subst (λ (n : ℕ). StopsLeave (HasPartOfBlocks shape chosen.other 1 n bytes) (g.D.ZonedDisk.zones c.clear_bad.new.disk) (g.D.ZonedDisk.calls c.clear_bad.new.disk) (g.D.ZonedDisk.left c.clear_bad.new.disk) (g.D.ZonedDisk.calls c.copy_blocks.new.disk) (g.D.ZonedDisk.left c.copy_blocks.new.disk)) c.used_blocks-used.ensures c.copy_blocks.ensures.left))
+    (λ before after same h. blocks_only shape chosen bytes is placed before after h) (subst (λ (n : ℕ). StopsLeave (HasPartOfBlocks shape chosen.other 1 n bytes) (g.D.ZonedDisk.zones c.clear_bad.new.disk) (g.D.ZonedDisk.calls c.clear_bad.new.disk) (g.D.ZonedDisk.left c.clear_bad.new.disk) (g.D.ZonedDisk.calls c.copy_blocks.new.disk) (g.D.ZonedDisk.left c.copy_blocks.new.disk)) {y = used_blocks shape chosen.head.layout} c.used_blocks-used.ensures c.copy_blocks.ensures.left))
 
 pub returns-clause-left : goal.returns-clause-left
 returns-clause-left g c =
@@ -111,7 +111,7 @@ returns-clause-left g c =
     (stops_more (IsPartCleared shape chosen.other chosen.other_good) (OnlyAt (InSet shape chosen.other 0 (used_blocks shape chosen.head.layout))) shape (g.D.ZonedDisk.told c.args.disk.now) (g.D.ZonedDisk.zones c.args.disk.now) (g.D.ZonedDisk.calls c.args.disk.now) (g.D.ZonedDisk.calls c.clear_bad.new.disk) (g.D.ZonedDisk.left c.args.disk.now) (g.D.ZonedDisk.left c.clear_bad.new.disk) c.requires.told (d.leaves c.args.disk.now)
     (λ before after same h. clear_only shape chosen bytes is placed before after h) c.clear_bad.ensures.left)
     (stops_more (HasPartOfBlocks shape chosen.other 1 (used_blocks shape chosen.head.layout) bytes) (OnlyAt (InSet shape chosen.other 0 (used_blocks shape chosen.head.layout))) shape (g.D.ZonedDisk.told c.clear_bad.new.disk) (g.D.ZonedDisk.zones c.clear_bad.new.disk) (g.D.ZonedDisk.calls c.clear_bad.new.disk) (g.D.ZonedDisk.calls c.copy_blocks.new.disk) (g.D.ZonedDisk.left c.clear_bad.new.disk) (g.D.ZonedDisk.left c.copy_blocks.new.disk) (c.in_ok-clear_bad.ensures.told ∙ c.requires.told) (d.leaves c.clear_bad.new.disk)
-    (λ before after same h. blocks_only shape chosen bytes is placed before after h) (subst (λ (n : ℕ). StopsLeave (HasPartOfBlocks shape chosen.other 1 n bytes) (g.D.ZonedDisk.zones c.clear_bad.new.disk) (g.D.ZonedDisk.calls c.clear_bad.new.disk) (g.D.ZonedDisk.left c.clear_bad.new.disk) (g.D.ZonedDisk.calls c.copy_blocks.new.disk) (g.D.ZonedDisk.left c.copy_blocks.new.disk)) c.used_blocks-used.ensures c.copy_blocks.ensures.left)))
+    (λ before after same h. blocks_only shape chosen bytes is placed before after h) (subst (λ (n : ℕ). StopsLeave (HasPartOfBlocks shape chosen.other 1 n bytes) (g.D.ZonedDisk.zones c.clear_bad.new.disk) (g.D.ZonedDisk.calls c.clear_bad.new.disk) (g.D.ZonedDisk.left c.clear_bad.new.disk) (g.D.ZonedDisk.calls c.copy_blocks.new.disk) (g.D.ZonedDisk.left c.copy_blocks.new.disk)) {y = used_blocks shape chosen.head.layout} c.used_blocks-used.ensures c.copy_blocks.ensures.left)))
     (stops_more (HasPartOfSuper shape chosen) (OnlyAt (InSet shape chosen.other 0 (used_blocks shape chosen.head.layout))) shape (g.D.ZonedDisk.told c.copy_blocks.new.disk) (g.D.ZonedDisk.zones c.copy_blocks.new.disk) (g.D.ZonedDisk.calls c.copy_blocks.new.disk) (g.D.ZonedDisk.calls c.put_super.new.disk) (g.D.ZonedDisk.left c.copy_blocks.new.disk) (g.D.ZonedDisk.left c.put_super.new.disk) (c.in_ok-copy_blocks.ensures.told ∙ c.in_ok-clear_bad.ensures.told ∙ c.requires.told) (d.leaves c.copy_blocks.new.disk)
     (λ before after same h. super_only shape chosen bytes is placed before after h) c.put_super.ensures.left)
 
@@ -137,7 +137,7 @@ returns-in_err-copy_blocks-clause-kept g c =
     let chosen = c.args.chosen.now in
     let bytes = c.args.blocks.now in
     let placed = c.requires.placed in
-    let part = subst (λ (n : ℕ). Both (g.D.ZonedDisk.zones c.clear_bad.new.disk) (g.D.ZonedDisk.zones c.copy_blocks.new.disk) (HasPartOfBlocks shape chosen.other 1 n bytes)) c.used_blocks-used.ensures c.copy_blocks.ensures.way in
+    let part = subst (λ (n : ℕ). Both (g.D.ZonedDisk.zones c.clear_bad.new.disk) (g.D.ZonedDisk.zones c.copy_blocks.new.disk) (HasPartOfBlocks shape chosen.other 1 n bytes)) {y = used_blocks shape chosen.head.layout} c.used_blocks-used.ensures c.copy_blocks.ensures.way in
     let two = Both-two _ _ _ (IsPartCleared shape chosen.other chosen.other_good) (HasPartOfBlocks shape chosen.other 1 (used_blocks shape chosen.head.layout) bytes)
     c.clear_bad.ensures.way part in
     Both-told _ _ _ (KeepsVolume (chosen_of c.args.chosen.now)) (λ old new e n h.
@@ -153,7 +153,7 @@ returns-clause-kept g c =
     let chosen = c.args.chosen.now in
     let bytes = c.args.blocks.now in
     let placed = c.requires.placed in
-    let copied = subst (λ (n : ℕ). Both (g.D.ZonedDisk.zones c.clear_bad.new.disk) (g.D.ZonedDisk.zones c.copy_blocks.new.disk) (HasBlocks shape chosen.other 1 n bytes)) c.used_blocks-used.ensures c.in_ok-copy_blocks.ensures.ok in
+    let copied = subst (λ (n : ℕ). Both (g.D.ZonedDisk.zones c.clear_bad.new.disk) (g.D.ZonedDisk.zones c.copy_blocks.new.disk) (HasBlocks shape chosen.other 1 n bytes)) {y = used_blocks shape chosen.head.layout} c.used_blocks-used.ensures c.in_ok-copy_blocks.ensures.ok in
     let two = Both-two _ _ _ (IsPartCleared shape chosen.other chosen.other_good) (HasBlocks shape chosen.other 1 (used_blocks shape chosen.head.layout) bytes)
     c.clear_bad.ensures.way copied in
     let three = Both-two _ _ _ _ (HasPartOfSuper shape chosen) two c.put_super.ensures.way in
@@ -192,7 +192,7 @@ returns-in_err-copy_blocks-clause-safe g c low durable =
     from_then (HasPartOfBlocks shape chosen.other 1 (used_blocks shape chosen.head.layout) bytes) shape (g.D.ZonedDisk.told c.clear_bad.new.disk) (g.D.ZonedDisk.zones c.clear_bad.new.disk) (g.D.ZonedDisk.calls c.clear_bad.new.disk) (g.D.ZonedDisk.calls c.copy_blocks.new.disk) (g.D.ZonedDisk.left c.clear_bad.new.disk) (g.D.ZonedDisk.left c.copy_blocks.new.disk)
     (blocks_way shape chosen.other 1 (used_blocks shape chosen.head.layout) bytes (omega arith) (there_inside shape chosen bytes placed (omega arith)))
     (c.in_ok-clear_bad.ensures.told ∙ c.requires.told) (d.agrees c.clear_bad.new.disk) (d.shaped c.clear_bad.new.disk) (c.in_ok-clear_bad.ensures.durable durable)
-    (subst (λ (n : ℕ). StopsLeave (HasPartOfBlocks shape chosen.other 1 n bytes) (g.D.ZonedDisk.zones c.clear_bad.new.disk) (g.D.ZonedDisk.calls c.clear_bad.new.disk) (g.D.ZonedDisk.left c.clear_bad.new.disk) (g.D.ZonedDisk.calls c.copy_blocks.new.disk) (g.D.ZonedDisk.left c.copy_blocks.new.disk)) c.used_blocks-used.ensures c.copy_blocks.ensures.left) c.copy_blocks.ensures.calls low
+    (subst (λ (n : ℕ). StopsLeave (HasPartOfBlocks shape chosen.other 1 n bytes) (g.D.ZonedDisk.zones c.clear_bad.new.disk) (g.D.ZonedDisk.calls c.clear_bad.new.disk) (g.D.ZonedDisk.left c.clear_bad.new.disk) (g.D.ZonedDisk.calls c.copy_blocks.new.disk) (g.D.ZonedDisk.left c.copy_blocks.new.disk)) {y = used_blocks shape chosen.head.layout} c.used_blocks-used.ensures c.copy_blocks.ensures.left) c.copy_blocks.ensures.calls low
     (KeepsVolume (chosen_of c.args.chosen.now)) (IsPartCleared shape chosen.other chosen.other_good) (g.D.ZonedDisk.zones c.args.disk.now) (g.D.ZonedDisk.calls c.args.disk.now) c.clear_bad.ensures.way
     (λ old middle i e clear k below can part. blocks_keep shape chosen bytes is placed old (Some-same _ _ (sym (d.agrees c.args.disk.now old e) ∙ c.requires.told)) (d.shaped c.args.disk.now old e) (c.requires.chosen old e) middle i (d.leaves c.copy_blocks.new.disk k i below can).0 (c.requires.blocks old e) clear part)
     first
@@ -206,7 +206,7 @@ returns-clause-safe g c low durable =
     let chosen = c.args.chosen.now in
     let bytes = c.args.blocks.now in
     let placed = c.requires.placed in
-    let copied = subst (λ (n : ℕ). Both (g.D.ZonedDisk.zones c.clear_bad.new.disk) (g.D.ZonedDisk.zones c.copy_blocks.new.disk) (HasBlocks shape chosen.other 1 n bytes)) c.used_blocks-used.ensures c.in_ok-copy_blocks.ensures.ok in
+    let copied = subst (λ (n : ℕ). Both (g.D.ZonedDisk.zones c.clear_bad.new.disk) (g.D.ZonedDisk.zones c.copy_blocks.new.disk) (HasBlocks shape chosen.other 1 n bytes)) {y = used_blocks shape chosen.head.layout} c.used_blocks-used.ensures c.in_ok-copy_blocks.ensures.ok in
     let below = c.put_super.ensures.calls in
     let first : StopsFrom (KeepsVolume (chosen_of c.args.chosen.now)) (g.D.ZonedDisk.zones c.args.disk.now) (g.D.ZonedDisk.calls c.args.disk.now) (g.D.ZonedDisk.calls c.clear_bad.new.disk) (g.D.ZonedDisk.left c.clear_bad.new.disk) = λ old e k i above below can.
     clear_keeps shape chosen bytes is placed old (Some-same _ _ (sym (d.agrees c.args.disk.now old e) ∙ c.requires.told)) (d.shaped c.args.disk.now old e) (c.requires.chosen old e) i (d.leaves c.clear_bad.new.disk k i below can).0
@@ -215,7 +215,7 @@ returns-clause-safe g c low durable =
     let second : StopsFrom (KeepsVolume (chosen_of c.args.chosen.now)) (g.D.ZonedDisk.zones c.args.disk.now) (g.D.ZonedDisk.calls c.args.disk.now) (g.D.ZonedDisk.calls c.copy_blocks.new.disk) (g.D.ZonedDisk.left c.copy_blocks.new.disk) = from_then (HasPartOfBlocks shape chosen.other 1 (used_blocks shape chosen.head.layout) bytes) shape (g.D.ZonedDisk.told c.clear_bad.new.disk) (g.D.ZonedDisk.zones c.clear_bad.new.disk) (g.D.ZonedDisk.calls c.clear_bad.new.disk) (g.D.ZonedDisk.calls c.copy_blocks.new.disk) (g.D.ZonedDisk.left c.clear_bad.new.disk) (g.D.ZonedDisk.left c.copy_blocks.new.disk)
     (blocks_way shape chosen.other 1 (used_blocks shape chosen.head.layout) bytes (omega arith) (there_inside shape chosen bytes placed (omega arith)))
     (c.in_ok-clear_bad.ensures.told ∙ c.requires.told) (d.agrees c.clear_bad.new.disk) (d.shaped c.clear_bad.new.disk) (c.in_ok-clear_bad.ensures.durable durable)
-    (subst (λ (n : ℕ). StopsLeave (HasPartOfBlocks shape chosen.other 1 n bytes) (g.D.ZonedDisk.zones c.clear_bad.new.disk) (g.D.ZonedDisk.calls c.clear_bad.new.disk) (g.D.ZonedDisk.left c.clear_bad.new.disk) (g.D.ZonedDisk.calls c.copy_blocks.new.disk) (g.D.ZonedDisk.left c.copy_blocks.new.disk)) c.used_blocks-used.ensures c.copy_blocks.ensures.left) c.copy_blocks.ensures.calls (omega (arith, low, below))
+    (subst (λ (n : ℕ). StopsLeave (HasPartOfBlocks shape chosen.other 1 n bytes) (g.D.ZonedDisk.zones c.clear_bad.new.disk) (g.D.ZonedDisk.calls c.clear_bad.new.disk) (g.D.ZonedDisk.left c.clear_bad.new.disk) (g.D.ZonedDisk.calls c.copy_blocks.new.disk) (g.D.ZonedDisk.left c.copy_blocks.new.disk)) {y = used_blocks shape chosen.head.layout} c.used_blocks-used.ensures c.copy_blocks.ensures.left) c.copy_blocks.ensures.calls (omega (arith, low, below))
     (KeepsVolume (chosen_of c.args.chosen.now)) (IsPartCleared shape chosen.other chosen.other_good) (g.D.ZonedDisk.zones c.args.disk.now) (g.D.ZonedDisk.calls c.args.disk.now) c.clear_bad.ensures.way
     (λ old middle i e clear k below can part. blocks_keep shape chosen bytes is placed old (Some-same _ _ (sym (d.agrees c.args.disk.now old e) ∙ c.requires.told)) (d.shaped c.args.disk.now old e) (c.requires.chosen old e) middle i (d.leaves c.copy_blocks.new.disk k i below can).0 (c.requires.blocks old e) clear part)
     first in
