@@ -1,13 +1,14 @@
 -- What opening makes of a disk, and what it leaves of it.
-use Rattle.std.specs.Prelude.{◌≡◌, ◌⊎◌, ℕ, ◌+◌, List, Option}
+use Rattle.std.specs.Prelude.{◌≡◌, ◌⊎◌, ℕ, ◌+◌, List, Option, ◌^◌, ◌-◌, ◌<◌, ◌≤◌}
 use Rattle.zd_base.specs.Geometry.{Shape}
 use Rattle.zd_base.specs.Layout.{used_blocks}
-use Rattle.zd_disk.specs.Told.{Both, next_count}
+use Rattle.zd_disk.specs.Told.{Both, next_count, WhereTold}
 use Rattle.zd_model.specs.Image.{Image, Same}
 use Rattle.zd_model.specs.Tables.{served}
 use Rattle.zd_model.specs.Volume.{Chosen as Set, IsWellFormed, content}
 use Rattle.zd_sets.specs.Calls.{equal_calls}
 use Rattle.zd_sets.specs.Choice.{chosen_of}
+use Rattle.zd_sets.specs.Equal.{LeavesBy}
 use Rattle.zd_sets.specs.Kept.{ServesSame}
 use Rattle.zd_sets.specs.declared.choice.Chosen.{Chosen}
 use Rattle.zd_open.specs.Examined.{ArePointers}
@@ -31,6 +32,23 @@ IsSameVolume old new = (c : Set) × IsWellFormed old c × ServesSame c old new
 -- the new one holds the same, or it is the same volume
 abbrev pub IsKept : Image → Image → Type 0
 IsKept old new = Same old new ⊎ IsSameVolume old new
+
+-- a stop may leave the new one: it holds the same as one that it could leave before, or it is the volume
+-- that the disk read as
+abbrev pub IsLeftOrKept : Image → Image → Image → Type 0
+IsLeftOrKept reads old new = Same old new ⊎ IsSameVolume reads new
+
+-- from moment `from` on, up to moment `until`, a stop may leave what it could leave then, or the volume that
+-- the disk read as
+abbrev pub StopsLeaveOrKeep : Option Image → ℕ → (ℕ → Image → Type 0) → ℕ → (ℕ → Image → Type 0) → Type 0
+StopsLeaveOrKeep zones from past until now = until < 2 ^ 64 - 1 →
+    WhereTold zones (λ reads. LeavesBy (IsLeftOrKept reads) from past until now)
+
+-- from moment `from` on, up to moment `until`, each image that a stop may leave holds the same as what the
+-- disk read as, or is the same volume
+abbrev pub StopsKeep : Option Image → ℕ → ℕ → (ℕ → Image → Type 0) → Type 0
+StopsKeep zones from until now = until < 2 ^ 64 - 1 →
+    WhereTold zones (λ old. (k : ℕ) (new : Image) → from ≤ k → k ≤ until → now k new → IsKept old new)
 
 -- the disk had one writing call, after which it holds the same
 pub record IsFlushed (before after : Option Image) (calls now : ℕ) : Type 0 where

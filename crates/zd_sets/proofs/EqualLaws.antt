@@ -17,6 +17,7 @@ use Rattle.zd_model.proofs.Decoded.{decodes}
 use Rattle.zd_model.proofs.EventLaws.{SameZone-refl, SameZone-trans}
 use Rattle.zd_model.proofs.SuperSpelling.{spells}
 use Rattle.zd_model.proofs.SameLaws.{same_block, same_run}
+use Rattle.zd_disk.proofs.SameSteps.{Same-back}
 use Rattle.zd_disk.proofs.ToldLaws.{Both-new, IfSome-at}
 use Rattle.zd_disk.specs.Steps.{Wrote, count_of, piece}
 use Rattle.zd_disk.specs.Told.{Both}
@@ -351,20 +352,9 @@ module _ (g : Shape) (choice : Choice) (bytes : List ℕ) (placed : IsPlaced g c
         zeros = λ e. ap (λ (block : List ℕ). take 512 block) front ∙ h.zeros e;
       }
 
-across : (a b c : Image) → Same a b → Same a c → Same b c
-across a b c h k = record {
-  geometry = k.geometry ∙ sym h.geometry;
-  zones = λ z. record {
-    held = (k.zones z).held ∙ sym (h.zones z).held;
-    sectors = λ i low. let held = (h.zones z).held in
-        let inside : i < a.held z = omega arith in
-        (k.zones z).sectors i inside ∙ sym ((h.zones z).sectors i inside);
-  };
-}
-
 -- what a flush makes last is what the disk then reads as
 pub durable_new : (o n : Option Image) (calls : ℕ) (left : ℕ → Image → Type 0) → Both o n Same
     → (calls < 2 ^ 64 - 1 → IfSome o (λ i. (c : Image) → left calls c → Same i c)) → IsDurable n calls left
 durable_new o n calls left both last low image e other can =
     let from = Both-new o n Same image both e in
-    across from.0 image other from.2 (IfSome-at o from.0 (λ i. (c : Image) → left calls c → Same i c) from.1 (last low) other can)
+    Same-back from.0 image other from.2 (IfSome-at o from.0 (λ i. (c : Image) → left calls c → Same i c) from.1 (last low) other can)

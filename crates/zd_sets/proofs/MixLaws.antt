@@ -1,12 +1,12 @@
 -- A block after a write that was cut short: each of its sectors is the old one or the written one.
-use Rattle.std.proofs.Common.{◌≡◌, ◌==◌, ◌⊎◌, Some, None, Result, Ok, Err, ℕ, zero, suc, ◌+◌, ◌*◌, ◌-◌, ◌<◌, ◌≤◌, List, ◌++◌, length, take, drop, replicate, is_some, inl, inr, true, false, refl, sym, ap, ◌∙◌, subst, arith, lit<, add-zero}
+use Rattle.std.proofs.Common.{◌≡◌, ◌≢◌, ◌==◌, ◌⊎◌, Some, None, Result, Ok, Err, ℕ, zero, suc, ◌+◌, ◌*◌, ◌-◌, ◌<◌, ◌≤◌, List, ◌++◌, length, take, drop, replicate, is_some, inl, inr, true, false, refl, sym, ap, ◌∙◌, subst, arith, lit<, add-zero}
 use Rattle.std.proofs.lemmas.Bool.{cases_lt}
 use Rattle.std.proofs.lemmas.List.{drop-drop, ext_get_or, get_or-append_right, get_or-drop, get_or-replicate, get_or-take, get_or_append_left, length-append, length-drop, length-replicate, length-take, take-append-le, take-take}
 use Rattle.std.proofs.Math.Seq.{take-append_seam, drop-append_seam}
 use Rattle.std.specs.Int.{w32, from_le_bytes}
 use Rattle.zd_base.specs.Geometry.{Shape}
 use Rattle.zd_model.specs.Bytes.{AreBytes, IsSector, u32_at, zero_sector}
-use Rattle.zd_model.specs.Image.{Image, IsImage, block_at, run_of}
+use Rattle.zd_model.specs.Image.{Image, IsImage, SameZone, block_at, run_of}
 use Rattle.zd_model.specs.Super.{HasSizes, IsSuper, block_of, decoded}
 use Rattle.zd_model.specs.Volume.{good_super, has_magic, if_own}
 use Rattle.zd_model.specs.declared.metadata.NotSuper.{NotSuper}
@@ -15,10 +15,37 @@ use Rattle.zd_model.specs.declared.metadata.Super.{Super}
 use Rattle.zd_model.proofs.Decoded.{is_decoded}
 use Rattle.zd_model.proofs.SameLaws.{same_run}
 use Rattle.zd_model.proofs.SuperSpelling.{spells}
-use Rattle.zd_disk.specs.Steps.{WriteStep, count_of, piece}
+use Rattle.zd_disk.specs.Steps.{Patched, WriteLeaves, WriteStep, count_of, piece}
 use Rattle.zd_sets.specs.Kept.{HasMagicOf}
 use Rattle.zd_sets.proofs.EqualLaws.{first_block, front_sector, good_at, zero_piece}
 use Rattle.zd_sets.proofs.WriteLaws.{pieces}
+
+-- new is old with some of these sectors in their places, in a conventional zone
+pub record IsMixed (z start : ℕ) (bytes : List ℕ) (old new : Image) : Type 0 where
+  pub geometry : new.geometry ≡ old.geometry
+  pub others : (y : ℕ) → y ≢ z → SameZone old new y
+  pub zone : Patched z start bytes old new
+
+-- as a write that is cut short makes it
+pub step_mixed : (reads old new : Image) (z start : ℕ) (bytes : List ℕ) → z < old.geometry.conv
+    → WriteStep reads z start bytes old new → IsMixed z start bytes old new
+step_mixed reads old new z start bytes low w =
+    record { geometry = w.geometry; others = w.others; zone = w.conventional low }
+
+-- and as a stop after a write does
+pub left_mixed : (reads now old new : Image) (z start : ℕ) (bytes : List ℕ) → z < old.geometry.conv
+    → WriteLeaves reads now z start bytes old new → IsMixed z start bytes old new
+left_mixed reads now old new z start bytes low w = record {
+  geometry = w.geometry;
+  others = w.others;
+  zone = record {
+    held = w.held low;
+    sectors = λ i inside. elim (w.conventional low i inside) [
+      | inl same ↦ inl same
+      | inr put ↦ inr (put.0, put.1, put.2, put.3)
+    ];
+  };
+}
 
 -- the magic bytes of a block lie in its first sector
 magic_in_front : (block : List ℕ) → has_magic (take 512 block) ≡ has_magic block
@@ -102,12 +129,12 @@ tail_piece block s j is above below =
 
 -- what was written of a block, sector by sector
 module _ (old new : Image) (image : IsImage old) (zone x : ℕ) (bytes : List ℕ) (low : zone < old.geometry.conv)
-    (inside : x < old.geometry.zone_blocks) (w : WriteStep old zone (8 * x) bytes old new) where
+    (inside : x < old.geometry.zone_blocks) (w : IsMixed zone (8 * x) bytes old new) where
   sector_of : (j : ℕ) → j < 8 → (new.sector zone (8 * x + j) ≡ old.sector zone (8 * x + j))
       ⊎ ((j < count_of bytes) × (new.sector zone (8 * x + j) ≡ piece bytes j))
   sector_of j few =
       let full = image.conventional zone low in
-      elim ((w.conventional low).sectors (8 * x + j) (omega (arith, full))) [
+      elim (w.zone.sectors (8 * x + j) (omega (arith, full))) [
         | inl same ↦ inl same
         | inr put ↦
             let one : put.0 ≡ j = omega (arith, put.2) in
@@ -115,8 +142,8 @@ module _ (old new : Image) (image : IsImage old) (zone x : ℕ) (bytes : List �
       ]
 
   -- the block begins with the magic bytes as before, or as the written one
-  pub step_mark : length bytes ≡ 4096 → HasMagicOf (block_at new zone x) (block_at old zone x) bytes
-  step_mark size =
+  pub mixed_mark : length bytes ≡ 4096 → HasMagicOf (block_at new zone x) (block_at old zone x) bytes
+  mixed_mark size =
       let here : 8 * x + 0 ≡ 8 * x = omega arith in
       let full = image.conventional zone low in
       let one = (image.sectors zone (8 * x) (omega (arith, full))).0 in
@@ -134,7 +161,7 @@ module _ (old new : Image) (image : IsImage old) (zone x : ℕ) (bytes : List �
 
 -- and of the first block of a zone
 front_of : (old new : Image) → IsImage old → (zone : ℕ) (bytes : List ℕ) → zone < old.geometry.conv → 0 < old.geometry.zone_blocks
-    → WriteStep old zone 0 bytes old new → (j : ℕ) → j < 8
+    → IsMixed zone 0 bytes old new → (j : ℕ) → j < 8
     → (new.sector zone j ≡ old.sector zone j) ⊎ ((j < count_of bytes) × (new.sector zone j ≡ piece bytes j))
 front_of old new image zone bytes low inside w j few =
     subst (λ (k : ℕ). (new.sector zone k ≡ old.sector zone k) ⊎ ((j < count_of bytes) × (new.sector zone k ≡ piece bytes j)))
@@ -146,10 +173,10 @@ front_piece sector j sizes low =
     piece_at sector 0 8 j (λ i from below. sizes i (omega arith)) low ∙ ap sector (let e : 0 + j ≡ j = omega arith in e)
 
 -- a first sector of zeros, written or not
-pub step_zeros : (old new : Image) → IsImage old → (zone : ℕ) → zone < old.geometry.conv → 0 < old.geometry.zone_blocks
-    → WriteStep old zone 0 (replicate 512 0) old new
+pub mixed_zeros : (old new : Image) → IsImage old → (zone : ℕ) → zone < old.geometry.conv → 0 < old.geometry.zone_blocks
+    → IsMixed zone 0 (replicate 512 0) old new
     → (block_at new zone 0 ≡ block_at old zone 0) ⊎ (good_super new zone ≡ None)
-step_zeros old new image zone low inside w =
+mixed_zeros old new image zone low inside w =
     let count = length-replicate {A = ℕ} 512 0 in
     elim (front_of old new image zone (replicate 512 0) low inside w 0 (omega arith)) [
       | inl same ↦ inl (same_run (new.sector zone) (old.sector zone) 0 8 (λ i from below.
@@ -164,15 +191,15 @@ step_zeros old new image zone low inside w =
 
 -- a super block, written in part: the old one, the new one, or a bad one where the first sector was zeros
 module _ (old new : Image) (first : IsImage old) (second : IsImage new) (zone : ℕ) (s : Super) (low : zone < old.geometry.conv)
-    (inside : 0 < old.geometry.zone_blocks) (same : new.geometry ≡ old.geometry) (sizes : HasSizes s)
-    (own : s.own ≡ zone * new.geometry.zone_blocks) (w : WriteStep old zone 0 (block_of s) old new) where
+    (inside : 0 < old.geometry.zone_blocks) (sizes : HasSizes s)
+    (own : s.own ≡ zone * new.geometry.zone_blocks) (w : IsMixed zone 0 (block_of s) old new) where
   old_sector : (i : ℕ) → i < 8 → IsSector (old.sector zone i)
   old_sector i few = let full = first.conventional zone low in first.sectors zone i (omega (arith, full))
 
   new_sector : (i : ℕ) → i < 8 → IsSector (new.sector zone i)
   new_sector i few =
-      let conv = ap (λ (g : Shape). g.conv) same in
-      let blocks = ap (λ (g : Shape). g.zone_blocks) same in
+      let conv = ap (λ (g : Shape). g.conv) w.geometry in
+      let blocks = ap (λ (g : Shape). g.zone_blocks) w.geometry in
       let full = second.conventional zone (omega (arith, conv)) in
       second.sectors zone i (omega (arith, full, blocks))
 
@@ -198,9 +225,9 @@ module _ (old new : Image) (first : IsImage old) (second : IsImage new) (zone : 
       ]))
       sizes own
 
-  pub step_over_good : is_some (good_super old zone) ≡ true
+  pub mixed_over_good : is_some (good_super old zone) ≡ true
       → (block_at new zone 0 ≡ block_at old zone 0) ⊎ (good_super new zone ≡ Some s)
-  step_over_good good =
+  mixed_over_good good =
       let is = good_decoded (zone * old.geometry.zone_blocks) (decoded (block_at old zone 0)) good in
       let was = is_decoded (block_at old zone 0) is.0 (run_bytes (old.sector zone) 0 8 (λ i from below. old_sector i below)) is.1 in
       let old_tail : (j : ℕ) → 1 ≤ j → j < 8 → old.sector zone j ≡ zero_sector = λ j above below.
@@ -227,8 +254,8 @@ module _ (old new : Image) (first : IsImage old) (second : IsImage new) (zone : 
       inr (whole front (λ j above below. sym (front_piece (new.sector zone) j (λ i few. (new_sector i few).0) below)
       ∙ tail_piece (block_at new zone 0) t j now above below))
 
-  pub step_over_zeros : take 512 (block_at old zone 0) ≡ zero_sector → (good_super new zone ≡ None) ⊎ (good_super new zone ≡ Some s)
-  step_over_zeros zeros = elim (sector_is 0 (omega arith)) [
+  pub mixed_over_zeros : take 512 (block_at old zone 0) ≡ zero_sector → (good_super new zone ≡ None) ⊎ (good_super new zone ≡ Some s)
+  mixed_over_zeros zeros = elim (sector_is 0 (omega arith)) [
     | inl stays ↦ inl (zeros_bad new zone (front_sector new zone
         (stays ∙ sym (front_piece (old.sector zone) 0 (λ i few. (old_sector i few).0) (omega arith)) ∙ zeros)))
     | inr put ↦ by_decoded (decoded (block_at new zone 0)) refl put

@@ -1,24 +1,24 @@
 -- Steps of making the other set equal, done or cut short, one after another.
 use Rattle.std.proofs.Common.{◌≡◌, ◌⊎◌, Option, Some, None, Result, Ok, Err, OnOk, OnErr, ℕ, ◌+◌, ◌*◌, ◌/◌, ◌%◌, ◌<◌, ◌≤◌, List, length, replicate, inl, inr, Bool, true, false, refl, sym, ap, ◌∙◌, subst, arith}
-use Rattle.std.proofs.lemmas.Bool.{cases_lt}
+use Rattle.std.proofs.lemmas.Bool.{cases_eq, cases_lt}
 use Rattle.std.proofs.lemmas.List.{length-replicate}
 use Rattle.zd_base.specs.Geometry.{IsShape, Shape}
 use Rattle.zd_base.specs.Layout.{used_blocks}
 use Rattle.zd_model.specs.Image.{Image, IsImage, block_at, set_block}
 use Rattle.zd_model.specs.Super.{HasSizes, block_of}
 use Rattle.zd_model.specs.Volume.{good_super, has_magic}
+use Rattle.zd_model.proofs.SameLaws.{same_block}
 use Rattle.zd_model.proofs.SuperSpelling.{spells}
-use Rattle.zd_disk.specs.Steps.{WriteStep}
 use Rattle.zd_disk.specs.Told.{Both}
 use Rattle.zd_sets.specs.Blocks.{AreBlocks, blocks_of}
 use Rattle.zd_sets.specs.Choice.{IsChoice, IsPlaced, chosen_of}
 use Rattle.zd_sets.specs.Equal.{HasBlock, HasBlocks, HasSuper, InSet, IsCleared, IsReady, OnlyAt, head_at}
 use Rattle.zd_sets.specs.Kept.{HasMagicOf, HasPartOfBlock, HasPartOfBlocks, HasPartOfSuper, IsOnTheWay, IsPartCleared, KeepsVolume}
 use Rattle.zd_sets.specs.declared.choice.Chosen.{Chosen as Choice}
-use Rattle.zd_sets.proofs.EqualLaws.{Both-then, at_front, first_block, only_more, only_then, same_good, same_place, set_still, there_inside}
+use Rattle.zd_sets.proofs.EqualLaws.{Both-then, at_front, first_block, only_more, only_same, only_then, same_good, same_only, same_place, set_still, there_inside}
 use Rattle.zd_sets.proofs.KeptLaws.{keeps_volume}
-use Rattle.zd_sets.proofs.MixLaws.{step_mark, step_over_good, step_over_zeros, step_zeros, zeros_bad}
-use Rattle.zd_sets.proofs.StopLaws.{step_only}
+use Rattle.zd_sets.proofs.MixLaws.{IsMixed, mixed_mark, mixed_over_good, mixed_over_zeros, mixed_zeros, zeros_bad}
+use Rattle.zd_sets.proofs.StopLaws.{IsWay, mixed_only}
 
 -- what is so after Ok and after Err is so
 pub either_way : {T E : Type 0} (r : Result T E) (P : Type 0) → OnOk r P → OnErr r P → P
@@ -58,14 +58,14 @@ done_super g c a b h = record { only = h.only; super = inr (inr h.super) }
 
 -- a write that is cut short
 pub part_clear : (g : Shape) (zone : ℕ) (good : Bool) (a b : Image) → a.geometry ≡ g → IsImage a → zone < g.conv
-    → 0 < g.zone_blocks → good ≡ false → WriteStep a zone 0 (replicate 512 0) a b → IsPartCleared g zone good a b
+    → 0 < g.zone_blocks → good ≡ false → IsMixed zone 0 (replicate 512 0) a b → IsPartCleared g zone good a b
 part_clear g zone good a b shape image low some bad w =
     let conv = ap (λ (s : Shape). s.conv) shape in
     let blocks = ap (λ (s : Shape). s.zone_blocks) shape in
     record {
       only = only_more (λ z k. (z ≡ zone) × (k ≡ 0)) (InSet g zone 0 1) a b (at_front g zone)
-          (step_only a a b zone 0 1 (replicate 512 0) image (omega (arith, conv)) (omega (arith, blocks)) (length-replicate {A = ℕ} 512 0) (omega arith) w);
-      super = elim (step_zeros a b image zone (omega (arith, conv)) (omega (arith, blocks)) w) [
+          (mixed_only a b zone 0 1 (replicate 512 0) image (omega (arith, conv)) (omega (arith, blocks)) (length-replicate {A = ℕ} 512 0) (omega arith) w);
+      super = elim (mixed_zeros a b image zone (omega (arith, conv)) (omega (arith, blocks)) w) [
         | inl stays ↦ inl stays
         | inr none ↦ inr (bad, none)
       ];
@@ -78,7 +78,7 @@ set_place g first i a shape = ap (λ (s : Shape). block_at a (first + i / s.zone
 
 pub part_block : (g : Shape) (first i : ℕ) (block : List ℕ) (a b : Image) → a.geometry ≡ g → IsImage a → 0 < g.zone_blocks
     → first + i / g.zone_blocks < g.conv → length block ≡ 4096
-    → WriteStep a (first + i / g.zone_blocks) (8 * (i % g.zone_blocks)) block a b → HasPartOfBlock g first i block a b
+    → IsMixed (first + i / g.zone_blocks) (8 * (i % g.zone_blocks)) block a b → HasPartOfBlock g first i block a b
 part_block g first i block a b shape image some inside size w =
     let conv = ap (λ (s : Shape). s.conv) shape in
     let blocks = ap (λ (s : Shape). s.zone_blocks) shape in
@@ -88,8 +88,8 @@ part_block g first i block a b shape image some inside size w =
     record {
       only = only_more (λ z k. (z ≡ first + i / g.zone_blocks) × (k ≡ i % g.zone_blocks)) (InSet g first i (i + 1)) a b
           (λ z k p. (i, omega arith, omega arith, p.0, p.1))
-          (step_only a a b zone x 8 block image (omega (arith, conv)) (omega (arith, blocks)) size (omega arith) w);
-      mark = elim (step_mark a b image zone x block (omega (arith, conv)) (omega (arith, blocks)) w size) [
+          (mixed_only a b zone x 8 block image (omega (arith, conv)) (omega (arith, blocks)) size (omega arith) w);
+      mark = elim (mixed_mark a b image zone x block (omega (arith, conv)) (omega (arith, blocks)) w size) [
         | inl before ↦ inl (now ∙ before ∙ ap has_magic (sym (set_place g first i a shape)))
         | inr put ↦ inr (now ∙ put)
       ];
@@ -97,10 +97,10 @@ part_block g first i block a b shape image some inside size w =
 
 pub part_super : (g : Shape) (c : Choice) (end : ℕ) (a b : Image) → a.geometry ≡ g → IsImage a → IsImage b → c.other < g.conv
     → 0 < g.zone_blocks → HasSizes (head_at g c.other c.head) → IsReady c end a
-    → WriteStep a c.other 0 (block_of (head_at g c.other c.head)) a b → HasPartOfSuper g c a b
+    → IsMixed c.other 0 (block_of (head_at g c.other c.head)) a b → HasPartOfSuper g c a b
 part_super g c end a b shape first second low some sizes ready w = record {
   only = only_more (λ z k. (z ≡ c.other) × (k ≡ 0)) (InSet g c.other 0 1) a b (at_front g c.other)
-      (step_only a a b c.other 0 8 (block_of (head_at g c.other c.head)) first (omega (arith, conv)) (omega (arith, blocks))
+      (mixed_only a b c.other 0 8 (block_of (head_at g c.other c.head)) first (omega (arith, conv)) (omega (arith, blocks))
       (spells (head_at g c.other c.head) sizes).bytes.count (omega arith) w);
   super = by_good c.other_good refl;
 }
@@ -117,11 +117,11 @@ part_super g c end a b shape first second low some sizes ready w = record {
     by_good : (v : Bool) → c.other_good ≡ v → (block_at b c.other 0 ≡ block_at a c.other 0)
         ⊎ ((c.other_good ≡ false) × (good_super b c.other ≡ None))
         ⊎ (good_super b c.other ≡ Some (head_at g c.other c.head))
-    by_good true e = elim (step_over_good a b first second c.other (head_at g c.other c.head) (omega (arith, conv)) (omega (arith, blocks)) w.geometry sizes own w (ready.good e)) [
+    by_good true e = elim (mixed_over_good a b first second c.other (head_at g c.other c.head) (omega (arith, conv)) (omega (arith, blocks)) sizes own w (ready.good e)) [
       | inl stays ↦ inl stays
       | inr put ↦ inr (inr put)
     ]
-    by_good false e = elim (step_over_zeros a b first second c.other (head_at g c.other c.head) (omega (arith, conv)) (omega (arith, blocks)) w.geometry sizes own w (ready.zeros e)) [
+    by_good false e = elim (mixed_over_zeros a b first second c.other (head_at g c.other c.head) (omega (arith, conv)) (omega (arith, blocks)) sizes own w (ready.zeros e)) [
       | inl none ↦ inr (inl (e, none))
       | inr put ↦ inr (inr put)
     ]
@@ -133,36 +133,88 @@ outside g first from end k some out at =
     let one = same_place g.zone_blocks k at.0 some (omega (arith, at.3)) at.4 in
     elim out [ inl before ↦ absurd (omega (arith, at.1, one)) | inr behind ↦ absurd (omega (arith, at.2, one)) ]
 
--- some blocks are written, and the next one in part
-pub blocks_then_part : (g : Shape) (first from i end : ℕ) (bytes : List ℕ) (a b c : Image) → 0 < g.zone_blocks → a.geometry ≡ g
+-- part of one of the blocks
+pub one_of_blocks : (g : Shape) (first from i end : ℕ) (bytes : List ℕ) (a b : Image) → 0 < g.zone_blocks → a.geometry ≡ g
     → from ≤ i → i < end → ((k : ℕ) → k < end → first + k / g.zone_blocks < g.conv)
-    → HasBlocks g first from i bytes a b → HasPartOfBlock g first i (blocks_of bytes i 1) b c → HasPartOfBlocks g first from end bytes a c
-blocks_then_part g first from i end bytes a b c some shape low high inside done part = record {
-  only = only_then (InSet g first from end) a b c
-      (only_more (InSet g first from i) (InSet g first from end) a b (λ z x p. (p.0, p.1, omega (arith, p.2), p.3, p.4)) done.only)
-      (only_more (InSet g first i (i + 1)) (InSet g first from end) b c (λ z x p. (p.0, omega (arith, p.1), omega (arith, p.2), p.3, p.4)) part.only);
-  marks = λ k above below. elim (cases_lt k i) [
-    | inl earlier ↦ inr (ap has_magic (later k below (inl earlier) ∙ done.each k above earlier))
-    | inr from_it ↦ elim (cases_lt i k) [
-      | inl behind ↦ inl (ap has_magic (later k below (inr (omega arith)) ∙ before k below (omega arith)))
-      | inr up_to ↦
-          let here : k ≡ i = omega arith in
-          subst (λ (n : ℕ). HasMagicOf (set_block c first n) (set_block a first n) (blocks_of bytes n 1)) (sym here) (elim part.mark [
-            | inl stays ↦ inl (stays ∙ ap has_magic (before i high (omega arith)))
-            | inr put ↦ inr put
-          ])
-    ]
+    → HasPartOfBlock g first i (blocks_of bytes i 1) a b → HasPartOfBlocks g first from end bytes a b
+one_of_blocks g first from i end bytes a b some shape low high inside part = record {
+  only = only_more (InSet g first i (i + 1)) (InSet g first from end) a b
+      (λ z x p. (p.0, omega (arith, p.1), omega (arith, p.2), p.3, p.4)) part.only;
+  marks = λ k above below. elim (cases_eq k i) [
+    | inl here ↦ subst (λ (n : ℕ). HasMagicOf (set_block b first n) (set_block a first n) (blocks_of bytes n 1)) (sym here) part.mark
+    | inr other ↦ inl (ap has_magic (set_still g first (InSet g first i (i + 1)) a b some shape part.only k (inside k below)
+        (outside g first i (i + 1) k some (elim (cases_lt k i) [ inl before ↦ inl before | inr past ↦ inr (omega (arith, other)) ]))))
   ];
 }
-  where
-    before : (k : ℕ) → k < end → i ≤ k → set_block b first k ≡ set_block a first k
-    before k below past =
-        set_still g first (InSet g first from i) a b some shape done.only k (inside k below) (outside g first from i k some (inr past))
 
-    later : (k : ℕ) → k < end → (k < i) ⊎ (i + 1 ≤ k) → set_block c first k ≡ set_block b first k
-    later k below out =
-        set_still g first (InSet g first i (i + 1)) b c some (done.only.geometry ∙ shape) part.only k (inside k below)
-        (outside g first i (i + 1) k some out)
+-- steps that are done in part, one after another, are done in part
+pub blocks_way : (g : Shape) (first from end : ℕ) (bytes : List ℕ) → 0 < g.zone_blocks
+    → ((k : ℕ) → k < end → first + k / g.zone_blocks < g.conv) → IsWay g (HasPartOfBlocks g first from end bytes)
+blocks_way g first from end bytes some inside = record {
+  stays = λ a. record { only = only_same (InSet g first from end) a; marks = λ k above below. inl refl };
+  same = λ d i image shape same. record {
+    only = same_only (InSet g first from end) d i image same;
+    marks = λ k above below. inl (ap has_magic
+        (set_still g first (λ _ _. ⊥) d i some shape (same_only (λ _ _. ⊥) d i image same) k (inside k below) (λ none. none)));
+  };
+  then = λ a b c h k. record {
+    only = only_then (InSet g first from end) a b c h.only k.only;
+    marks = λ n above below. elim (k.marks n above below) [
+      | inl stays ↦ elim (h.marks n above below) [
+        | inl before ↦ inl (stays ∙ before)
+        | inr put ↦ inr (stays ∙ put)
+      ]
+      | inr put ↦ inr put
+    ];
+  };
+}
+
+pub clear_way : (g : Shape) (zone : ℕ) (good : Bool) → zone < g.conv → 0 < g.zone_blocks → IsWay g (IsPartCleared g zone good)
+clear_way g zone good low some = record {
+  stays = λ a. record { only = only_same (InSet g zone 0 1) a; super = inl refl };
+  same = λ d i image shape same. (
+      let conv = ap (λ (s : Shape). s.conv) shape in
+      let blocks = ap (λ (s : Shape). s.zone_blocks) shape in
+      record {
+        only = same_only (InSet g zone 0 1) d i image same;
+        super = inl (same_block d i image same zone 0 (omega (arith, conv)) (omega (arith, blocks)));
+      });
+  then = λ a b c h k. record {
+    only = only_then (InSet g zone 0 1) a b c h.only k.only;
+    super = elim k.super [
+      | inl stays ↦ elim h.super [
+        | inl before ↦ inl (stays ∙ before)
+        | inr bad ↦ inr (bad.0, same_good b c zone k.only.geometry stays ∙ bad.1)
+      ]
+      | inr bad ↦ inr bad
+    ];
+  };
+}
+
+pub super_way : (g : Shape) (c : Choice) → c.other < g.conv → 0 < g.zone_blocks → IsWay g (HasPartOfSuper g c)
+super_way g choice low some = record {
+  stays = λ a. record { only = only_same (InSet g choice.other 0 1) a; super = inl refl };
+  same = λ d i image shape same. (
+      let conv = ap (λ (s : Shape). s.conv) shape in
+      let blocks = ap (λ (s : Shape). s.zone_blocks) shape in
+      record {
+        only = same_only (InSet g choice.other 0 1) d i image same;
+        super = inl (same_block d i image same choice.other 0 (omega (arith, conv)) (omega (arith, blocks)));
+      });
+  then = λ a b c h k. record {
+    only = only_then (InSet g choice.other 0 1) a b c h.only k.only;
+    super = elim k.super [
+      | inl stays ↦ elim h.super [
+        | inl before ↦ inl (stays ∙ before)
+        | inr other ↦ elim other [
+          | inl bad ↦ inr (inl (bad.0, same_good b c choice.other k.only.geometry stays ∙ bad.1))
+          | inr put ↦ inr (inr (same_good b c choice.other k.only.geometry stays ∙ put))
+        ]
+      ]
+      | inr other ↦ inr other
+    ];
+  };
+}
 
 module _ (g : Shape) (choice : Choice) (bytes : List ℕ) (placed : IsPlaced g choice) (some : 0 < g.zone_blocks) where
   -- a block behind the super block stays, where that alone changes

@@ -79,16 +79,20 @@ pub record IsReady (c : Choice) (end : ℕ) (image : Image) : Type 0 where
   pub good : c.other_good ≡ true → is_some (good_super image c.other) ≡ true
   pub zeros : c.other_good ≡ false → take 512 (block_at image c.other 0) ≡ zero_sector
 
--- what a stop may leave from moment `from` on: an image that it could leave then, changed at such
--- places alone
-pub record LeavesOnly (At : ℕ → ℕ → Type 0) (from : ℕ) (past : ℕ → Image → Type 0)
+-- what a stop may leave from moment `from` on: what became in this way of an image that it could leave
+-- then
+pub record LeavesBy (R : Image → Image → Type 0) (from : ℕ) (past : ℕ → Image → Type 0)
     (until : ℕ) (now : ℕ → Image → Type 0) : Type 0 where
   pub earlier : (k : ℕ) (i : Image) → k < from → now k i → past k i
-  pub each : (k : ℕ) (i : Image) → from ≤ k → k ≤ until → now k i →
-      (d : Image) × past from d × OnlyAt At d i
+  pub each : (k : ℕ) (i : Image) → from ≤ k → k ≤ until → now k i → (d : Image) × past from d × R d i
 
 -- the same of a disk that tells its zones, while its count of writing calls is below its end
+abbrev pub StopsLeave : (Image → Image → Type 0) → Option Image → ℕ → (ℕ → Image → Type 0) →
+    ℕ → (ℕ → Image → Type 0) → Type 0
+StopsLeave R zones from past until now = until < 2 ^ 64 - 1 →
+    WhereTold zones (λ _. LeavesBy R from past until now)
+
+-- such an image changed at such places alone
 abbrev pub StopsLeaveOnly : (ℕ → ℕ → Type 0) → Option Image → ℕ → (ℕ → Image → Type 0) →
     ℕ → (ℕ → Image → Type 0) → Type 0
-StopsLeaveOnly At zones from past until now = until < 2 ^ 64 - 1 →
-    WhereTold zones (λ _. LeavesOnly At from past until now)
+StopsLeaveOnly At = StopsLeave (OnlyAt At)

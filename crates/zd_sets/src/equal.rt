@@ -9,8 +9,8 @@ ghost use Rattle.zd_model.specs.Super.{HasSizes};
 ghost use Rattle.zd_sets.specs.Blocks.{AreBlocks};
 ghost use Rattle.zd_sets.specs.Calls.{Made, MadeOf, clear_calls, differ, differing_from, equal_calls};
 ghost use Rattle.zd_sets.specs.Choice.{IsChoice, IsPlaced, chosen_of};
-ghost use Rattle.zd_sets.specs.Kept.{HasPartOfBlock, HasPartOfBlocks, HasPartOfSuper, IsPartCleared, KeepsVolume};
-ghost use Rattle.zd_sets.specs.Equal.{EachLeft, HasBlock, HasBlocks, HasSuper, InSet, IsCleared, IsDurable, IsMadeEqual, IsReady, StopsLeaveOnly, head_at};
+ghost use Rattle.zd_sets.specs.Kept.{HasPartOfBlock, HasPartOfBlocks, HasPartOfSuper, IsPartCleared, KeepsVolume, StopsKeepVolume};
+ghost use Rattle.zd_sets.specs.Equal.{EachLeft, HasBlock, HasBlocks, HasSuper, InSet, IsCleared, IsDurable, IsMadeEqual, IsReady, StopsLeave, StopsLeaveOnly, head_at};
 
 use crate::read::read_set_block;
 use crate::{Chosen, SetBlocks, write_block, write_super};
@@ -20,7 +20,8 @@ use zd_model::Super;
 
 /// Makes block `i` of the set that begins in zone `first` this one, by a write where it differs.
 ///
-/// At any answer the block begins with the magic bytes only where it did before or where this one does.
+/// At any answer, and in what a stop leaves, the block begins with the magic bytes only where it did
+/// before or where this one does.
 fn copy_block<D: ZonedDisk>(
     disk: &mut D,
     geometry: &Geometry,
@@ -39,7 +40,7 @@ fn copy_block<D: ZonedDisk>(
     ensures calls { D.calls disk.old ≤ D.calls disk.new }
     ensures counted { OnOk result (MadeOf (D.zones disk.old) (D.calls disk.old) (D.calls disk.new)
         (λ image. if differ (set_block image first i) block.now then 1 else 0)) }
-    ensures left { StopsLeaveOnly (InSet geometry.now first i (i + 1))
+    ensures left { StopsLeave (HasPartOfBlock geometry.now first i block.now)
         (D.zones disk.old) (D.calls disk.old) (D.left disk.old) (D.calls disk.new) (D.left disk.new) }
     ensures cause { HasCause (D.faults disk.old) (D.faults disk.new) result }
 {
@@ -55,7 +56,8 @@ fn copy_block<D: ZonedDisk>(
 /// Makes the blocks of the set that begins in zone `first` equal to these, from block 1 up to block
 /// `end`, by writes of those that differ, and flushes.
 ///
-/// At any answer each begins with the magic bytes only where it did before or where its own one does.
+/// At any answer, and in what a stop leaves, each begins with the magic bytes only where it did before
+/// or where its own one does.
 fn copy_blocks<D: ZonedDisk>(
     disk: &mut D,
     geometry: &Geometry,
@@ -75,7 +77,7 @@ fn copy_blocks<D: ZonedDisk>(
     ensures calls { D.calls disk.old ≤ D.calls disk.new }
     ensures counted { OnOk result (MadeOf (D.zones disk.old) (D.calls disk.old) (D.calls disk.new)
         (λ image. differing_from blocks.now first end image + 1)) }
-    ensures left { StopsLeaveOnly (InSet geometry.now first 1 end)
+    ensures left { StopsLeave (HasPartOfBlocks geometry.now first 1 end blocks.now)
         (D.zones disk.old) (D.calls disk.old) (D.left disk.old) (D.calls disk.new) (D.left disk.new) }
     ensures durable { OnOk result (IsDurable (D.zones disk.new) (D.calls disk.new) (D.left disk.new)) }
     ensures cause { HasCause (D.faults disk.old) (D.faults disk.new) result }
@@ -88,8 +90,8 @@ fn copy_blocks<D: ZonedDisk>(
 }
 
 /// Makes the first sector of a conventional zone zeros and flushes, where the super block there is bad:
-/// no part of a write to it makes it good then, but the whole. At any answer it is as before, or bad as
-/// it was.
+/// no part of a write to it makes it good then, but the whole. At any answer, and in what a stop leaves,
+/// it is as before, or bad as it was.
 fn clear_bad<D: ZonedDisk>(
     disk: &mut D,
     geometry: &Geometry,
@@ -104,8 +106,10 @@ fn clear_bad<D: ZonedDisk>(
     ensures told { D.told disk.new ≡ D.told disk.old }
     ensures calls { D.calls disk.old ≤ D.calls disk.new }
     ensures counted { OnOk result (Made (D.calls disk.old) (D.calls disk.new) (clear_calls good)) }
-    ensures left { StopsLeaveOnly (InSet geometry.now zone 0 1)
+    ensures left { StopsLeave (IsPartCleared geometry.now zone good)
         (D.zones disk.old) (D.calls disk.old) (D.left disk.old) (D.calls disk.new) (D.left disk.new) }
+    ensures durable { OnOk result (IsDurable (D.zones disk.old) (D.calls disk.old) (D.left disk.old) →
+        IsDurable (D.zones disk.new) (D.calls disk.new) (D.left disk.new)) }
     ensures cause { HasCause (D.faults disk.old) (D.faults disk.new) result }
 {
     let _zone_blocks = geometry.zone_blocks();
@@ -128,8 +132,8 @@ fn head_at(geometry: &Geometry, zone: ZoneNo, head: Super) -> Super
 /// Writes the other set's super block, with the chosen fields and its own number, and flushes.
 ///
 /// A stop or a failed call may cut the write short, so the other set needs the used blocks of the chosen
-/// one before, on the disk and in each image that a stop may leave. At any answer the super block is as
-/// before, or bad as it was, or has the chosen fields.
+/// one before, on the disk and in each image that a stop may leave. At any answer, and in what a stop
+/// leaves, the super block is as before, or bad as it was, or has the chosen fields.
 fn put_super<D: ZonedDisk>(disk: &mut D, geometry: &Geometry, chosen: &Chosen) -> Result<(), Failed>
     requires told { D.told disk.old ≡ Some geometry.now }
     requires placed { IsPlaced geometry.now chosen.now }
@@ -143,7 +147,7 @@ fn put_super<D: ZonedDisk>(disk: &mut D, geometry: &Geometry, chosen: &Chosen) -
     ensures told { D.told disk.new ≡ D.told disk.old }
     ensures calls { D.calls disk.old ≤ D.calls disk.new }
     ensures counted { OnOk result (Made (D.calls disk.old) (D.calls disk.new) 2) }
-    ensures left { StopsLeaveOnly (InSet geometry.now chosen.now.other 0 1)
+    ensures left { StopsLeave (HasPartOfSuper geometry.now chosen.now)
         (D.zones disk.old) (D.calls disk.old) (D.left disk.old) (D.calls disk.new) (D.left disk.new) }
     ensures durable { OnOk result (IsDurable (D.zones disk.new) (D.calls disk.new) (D.left disk.new)) }
     ensures cause { HasCause (D.faults disk.old) (D.faults disk.new) result }
@@ -165,7 +169,8 @@ fn put_super<D: ZonedDisk>(disk: &mut D, geometry: &Geometry, chosen: &Chosen) -
 ///
 /// After Ok a stop leaves what the disk reads as. Before, and at any answer, a stop leaves the disk
 /// changed in used blocks of the other set alone. At any answer a volume is one still, with the same
-/// content.
+/// content; and so is what a stop leaves at any moment, where a stop before would have left what the disk
+/// read as.
 pub fn make_equal<D: ZonedDisk>(
     disk: &mut D,
     geometry: &Geometry,
@@ -186,6 +191,8 @@ pub fn make_equal<D: ZonedDisk>(
     ensures counted { OnOk result (MadeOf (D.zones disk.old) (D.calls disk.old) (D.calls disk.new)
         (equal_calls chosen.now (used_blocks geometry.now chosen.now.head.layout))) }
     ensures left { StopsLeaveOnly (InSet geometry.now chosen.now.other 0 (used_blocks geometry.now chosen.now.head.layout))
+        (D.zones disk.old) (D.calls disk.old) (D.left disk.old) (D.calls disk.new) (D.left disk.new) }
+    ensures safe { StopsKeepVolume (chosen_of chosen.now)
         (D.zones disk.old) (D.calls disk.old) (D.left disk.old) (D.calls disk.new) (D.left disk.new) }
     ensures durable { OnOk result (IsDurable (D.zones disk.new) (D.calls disk.new) (D.left disk.new)) }
     ensures cause { HasCause (D.faults disk.old) (D.faults disk.new) result }

@@ -1,16 +1,17 @@
-use Rattle.std.proofs.Common.{ℕ, ◌≡◌, ◌+◌, ◌≤◌, Bool, replicate, sym, ap, ◌∙◌, arith}
-use Rattle.std.proofs.lemmas.List.{length-replicate}
+use Rattle.std.proofs.Common.{◌≡◌, ◌+◌, ◌≤◌, Bool, replicate, sym, ap, ◌∙◌, arith}
+use Rattle.std.proofs.lemmas.Result.{on_ok_weaker}
 use Rattle.zd_base.specs.Geometry.{Shape}
 use Rattle.zd_model.specs.Image.{Image, Same}
 use Rattle.zd_disk.proofs.ToldLaws.{IfSome-each, Some-same}
 use Rattle.zd_disk.specs.Steps.{Wrote}
 use Rattle.zd_sets.specs.Calls.{clear_calls}
-use Rattle.zd_sets.specs.Equal.{InSet, IsCleared}
+use Rattle.zd_sets.specs.Equal.{IsCleared}
 use Rattle.zd_sets.specs.Kept.{IsPartCleared}
 use Rattle.zd_sets.proofs.CallLaws.{made_two}
-use Rattle.zd_sets.proofs.EqualLaws.{Both-then, at_front, cleared, ok_anyway}
-use Rattle.zd_sets.proofs.StopLaws.{stops_flush, stops_more, stops_then, stops_write}
-use Rattle.zd_sets.proofs.WayLaws.{done_clear, part_clear}
+use Rattle.zd_sets.proofs.EqualLaws.{Both-then, cleared, ok_anyway, durable_new}
+use Rattle.zd_sets.proofs.StopLaws.{stops_flush, stops_then, stops_write}
+use Rattle.zd_sets.proofs.WayLaws.{done_clear, part_clear, clear_way}
+use Rattle.zd_sets.proofs.MixLaws.{step_mixed}
 use Rattle.zd_sets.proofs.WriteLaws.{Both-more}
 use Rattle.zd_sets.proofs.equal.clear_bad.Goals as goal
 
@@ -35,30 +36,39 @@ returns-in_err-write-clause-left g c =
     let d = g.met.D.ZonedDisk in
     let some = c.zone_blocks-zone_blocks.ensures.shape.size.least in
     let shape = c.args.geometry.now in
-    stops_more (λ z k. (z ≡ c.args.zone) × (k ≡ 0)) (InSet shape c.args.zone 0 1) (g.D.ZonedDisk.zones c.args.disk.now) (g.D.ZonedDisk.calls c.args.disk.now) (g.D.ZonedDisk.calls c.write.new.self) (g.D.ZonedDisk.left c.args.disk.now) (g.D.ZonedDisk.left c.write.new.self)
-    (at_front shape c.args.zone)
-    (stops_write shape c.args.zone 0 1 (replicate 512 0) (g.D.ZonedDisk.zones c.args.disk.now) (g.D.ZonedDisk.zones c.write.new.self) (g.D.ZonedDisk.calls c.args.disk.now) (g.D.ZonedDisk.calls c.write.new.self) (g.D.ZonedDisk.left c.args.disk.now) (g.D.ZonedDisk.left c.write.new.self)
-    c.requires.zone (omega arith) (length-replicate {A = ℕ} 512 0) (omega arith) c.write.ensures.calls
-    (λ image can. (d.leaves c.args.disk.now (g.D.ZonedDisk.calls c.args.disk.now) image (omega arith) can).0)
-    (λ image can. Some-same _ _ (sym (d.leaves c.args.disk.now (g.D.ZonedDisk.calls c.args.disk.now) image (omega arith) can).1 ∙ c.requires.told))
-    c.write.ensures.left)
+    let zone = c.args.zone in
+    let good = c.args.good in
+    let old = c.args.disk.now in
+    let middle = c.write.new.self in
+    stops_write (IsPartCleared shape zone good) shape (g.D.ZonedDisk.told old) (g.D.ZonedDisk.zones old) (g.D.ZonedDisk.calls old) (g.D.ZonedDisk.calls middle) (g.D.ZonedDisk.left old) (g.D.ZonedDisk.left middle)
+    c.requires.told (d.leaves old) c.write.ensures.calls zone 0 (replicate 512 0) (g.D.ZonedDisk.told middle) (g.D.ZonedDisk.zones middle) c.requires.zone (d.leaves middle)
+    (λ low reads before after e can image same is mixed. part_clear shape zone good before after same image c.requires.zone (omega arith) c.if-good.false mixed)
+    c.write.ensures.left
 
 pub returns-clause-left : goal.returns-clause-left
 returns-clause-left g c =
     let d = g.met.D.ZonedDisk in
     let some = c.zone_blocks-zone_blocks.ensures.shape.size.least in
     let shape = c.args.geometry.now in
-    stops_then (InSet shape c.args.zone 0 1) (Wrote c.args.zone 0 (replicate 512 0)) (g.D.ZonedDisk.zones c.args.disk.now) (g.D.ZonedDisk.zones c.write.new.self) (g.D.ZonedDisk.calls c.args.disk.now) (g.D.ZonedDisk.calls c.write.new.self) (g.D.ZonedDisk.calls c.flush.new.self) (g.D.ZonedDisk.left c.args.disk.now) (g.D.ZonedDisk.left c.write.new.self) (g.D.ZonedDisk.left c.flush.new.self)
+    let zone = c.args.zone in
+    let good = c.args.good in
+    let old = c.args.disk.now in
+    let middle = c.write.new.self in
+    let new = c.flush.new.self in
+    let way = clear_way shape zone good c.requires.zone (omega arith) in
+    stops_then (IsPartCleared shape zone good) way.then (Wrote zone 0 (replicate 512 0)) (g.D.ZonedDisk.zones old) (g.D.ZonedDisk.zones middle) (g.D.ZonedDisk.calls old) (g.D.ZonedDisk.calls middle) (g.D.ZonedDisk.calls new) (g.D.ZonedDisk.left old) (g.D.ZonedDisk.left middle) (g.D.ZonedDisk.left new)
     (omega (arith, c.write.ensures.calls)) (omega (arith, c.flush.ensures.calls)) c.in_ok-write.ensures.ok
-    (stops_more (λ z k. (z ≡ c.args.zone) × (k ≡ 0)) (InSet shape c.args.zone 0 1) (g.D.ZonedDisk.zones c.args.disk.now) (g.D.ZonedDisk.calls c.args.disk.now) (g.D.ZonedDisk.calls c.write.new.self) (g.D.ZonedDisk.left c.args.disk.now) (g.D.ZonedDisk.left c.write.new.self)
-    (at_front shape c.args.zone)
-    (stops_write shape c.args.zone 0 1 (replicate 512 0) (g.D.ZonedDisk.zones c.args.disk.now) (g.D.ZonedDisk.zones c.write.new.self) (g.D.ZonedDisk.calls c.args.disk.now) (g.D.ZonedDisk.calls c.write.new.self) (g.D.ZonedDisk.left c.args.disk.now) (g.D.ZonedDisk.left c.write.new.self)
-    c.requires.zone (omega arith) (length-replicate {A = ℕ} 512 0) (omega arith) c.write.ensures.calls
-    (λ image can. (d.leaves c.args.disk.now (g.D.ZonedDisk.calls c.args.disk.now) image (omega arith) can).0)
-    (λ image can. Some-same _ _ (sym (d.leaves c.args.disk.now (g.D.ZonedDisk.calls c.args.disk.now) image (omega arith) can).1 ∙ c.requires.told))
-    c.write.ensures.left))
-    (stops_flush (InSet shape c.args.zone 0 1) (g.D.ZonedDisk.zones c.write.new.self) (g.D.ZonedDisk.calls c.write.new.self) (g.D.ZonedDisk.calls c.flush.new.self) (g.D.ZonedDisk.left c.write.new.self) (g.D.ZonedDisk.left c.flush.new.self) c.flush.ensures.calls
-    (λ image can. (d.leaves c.write.new.self (g.D.ZonedDisk.calls c.write.new.self) image (omega arith) can).0) c.flush.ensures.left)
+    (stops_write (IsPartCleared shape zone good) shape (g.D.ZonedDisk.told old) (g.D.ZonedDisk.zones old) (g.D.ZonedDisk.calls old) (g.D.ZonedDisk.calls middle) (g.D.ZonedDisk.left old) (g.D.ZonedDisk.left middle)
+    c.requires.told (d.leaves old) c.write.ensures.calls zone 0 (replicate 512 0) (g.D.ZonedDisk.told middle) (g.D.ZonedDisk.zones middle) c.requires.zone (d.leaves middle)
+    (λ low reads before after e can image same is mixed. part_clear shape zone good before after same image c.requires.zone (omega arith) c.if-good.false mixed)
+    c.write.ensures.left)
+    (stops_flush (IsPartCleared shape zone good) shape (g.D.ZonedDisk.told middle) (g.D.ZonedDisk.zones middle) (g.D.ZonedDisk.calls middle) (g.D.ZonedDisk.calls new) (g.D.ZonedDisk.left middle) (g.D.ZonedDisk.left new)
+    (c.in_ok-write.ensures.told ∙ c.requires.told) (d.leaves middle) c.flush.ensures.calls way.same c.flush.ensures.left)
+
+pub returns-clause-durable : goal.returns-clause-durable
+returns-clause-durable g c =
+    on_ok_weaker c.flush.result (λ last before. durable_new (g.D.ZonedDisk.zones c.write.new.self) (g.D.ZonedDisk.zones c.flush.new.self) (g.D.ZonedDisk.calls c.flush.new.self) (g.D.ZonedDisk.left c.flush.new.self) c.flush.ensures.zones last)
+    c.flush.ensures.durable
 
 pub returns-in_err-write-clause-way : goal.returns-in_err-write-clause-way
 returns-in_err-write-clause-way g c =
@@ -66,7 +76,8 @@ returns-in_err-write-clause-way g c =
     let size = c.zone_blocks-zone_blocks.ensures.shape.size.least in
     Both-more _ _ _ _ (λ old new e w.
     let told = Some-same _ _ (sym (d.agrees c.args.disk.now old e) ∙ c.requires.told) in
-    part_clear c.args.geometry.now c.args.zone c.args.good old new told (d.shaped c.args.disk.now old e) c.requires.zone (omega arith) c.if-good.false w)
+    part_clear c.args.geometry.now c.args.zone c.args.good old new told (d.shaped c.args.disk.now old e) c.requires.zone (omega arith) c.if-good.false
+    (let conv = ap (λ (s : Shape). s.conv) told in step_mixed old old new c.args.zone 0 (replicate 512 0) (omega (arith, conv, c.requires.zone)) w))
     c.in_err-write.ensures.err
 
 pub returns-clause-way : goal.returns-clause-way

@@ -1,14 +1,16 @@
-use Rattle.std.proofs.Common.{ℕ, ◌≡◌, ◌+◌, ◌/◌, ◌%◌, Option, OnOk, Bool, true≢false, cond, ap, sym, ◌∙◌, subst, arith}
+use Rattle.std.proofs.Common.{ℕ, ◌+◌, ◌/◌, ◌%◌, Option, OnOk, Bool, true≢false, cond, ap, sym, ◌∙◌, subst, arith, ◌*◌}
 use Rattle.std.proofs.lemmas.Result.{on_err_weaker, on_ok_weaker}
 use Rattle.std.proofs.lemmas.Slice.Eq.{bytes_eq-Decides}
 use Rattle.zd_model.specs.Image.{Image, set_block}
 use Rattle.zd_disk.proofs.ToldLaws.{Some-same}
 use Rattle.zd_disk.specs.Told.{Both}
-use Rattle.zd_sets.specs.Equal.{HasBlock, InSet}
+use Rattle.zd_sets.specs.Equal.{HasBlock}
 use Rattle.zd_sets.proofs.CallLaws.{differ_apart, made_one}
 use Rattle.zd_sets.specs.Kept.{HasPartOfBlock}
 use Rattle.zd_sets.proofs.EqualLaws.{ok_anyway, wrote_has}
-use Rattle.zd_sets.proofs.StopLaws.{stops_after_read, stops_more, stops_write}
+use Rattle.zd_sets.proofs.StopLaws.{stops_after_read, stops_write}
+use Rattle.zd_base.specs.Geometry.{Shape}
+use Rattle.zd_sets.proofs.MixLaws.{step_mixed}
 use Rattle.zd_sets.proofs.WayLaws.{done_block, either_way, part_block}
 use Rattle.zd_sets.proofs.WriteLaws.{Both-more}
 use Rattle.zd_sets.proofs.equal.copy_block.Goals as goal
@@ -36,15 +38,13 @@ returns-clause-left g c =
     let block = c.args.block.now in
     let middle = c.read_set_block.new.disk in
     let new = c.write_block.new.disk in
-    stops_after_read (InSet shape first i (i + 1)) (g.D.ZonedDisk.zones c.args.disk.now) (g.D.ZonedDisk.zones middle) (g.D.ZonedDisk.calls c.args.disk.now) (g.D.ZonedDisk.calls middle) (g.D.ZonedDisk.calls new) (g.D.ZonedDisk.left c.args.disk.now) (g.D.ZonedDisk.left middle) (g.D.ZonedDisk.left new)
-    read.zones read.calls (omega (arith, c.write_block.ensures.calls)) read.left
-    (stops_more (λ z k. (z ≡ first + i / shape.zone_blocks) × (k ≡ i % shape.zone_blocks)) (InSet shape first i (i + 1)) (g.D.ZonedDisk.zones middle) (g.D.ZonedDisk.calls middle) (g.D.ZonedDisk.calls new) (g.D.ZonedDisk.left middle) (g.D.ZonedDisk.left new)
-    (λ z k p. (i, omega arith, omega arith, p.0, p.1))
-    (stops_write shape (first + i / shape.zone_blocks) (i % shape.zone_blocks) 8 block (g.D.ZonedDisk.zones middle) (g.D.ZonedDisk.zones new) (g.D.ZonedDisk.calls middle) (g.D.ZonedDisk.calls new) (g.D.ZonedDisk.left middle) (g.D.ZonedDisk.left new)
-    c.requires.inside (omega arith) c.requires.size (omega arith) c.write_block.ensures.calls
-    (λ image can. (d.leaves middle (g.D.ZonedDisk.calls middle) image (omega arith) can).0)
-    (λ image can. Some-same _ _ (sym (d.leaves middle (g.D.ZonedDisk.calls middle) image (omega arith) can).1 ∙ read.told ∙ c.requires.told))
-    c.write_block.ensures.left))
+    stops_after_read (HasPartOfBlock shape first i block) (g.D.ZonedDisk.zones c.args.disk.now) (g.D.ZonedDisk.zones middle) (g.D.ZonedDisk.calls c.args.disk.now) (g.D.ZonedDisk.calls middle) (g.D.ZonedDisk.calls new) (g.D.ZonedDisk.left c.args.disk.now) (g.D.ZonedDisk.left middle) (g.D.ZonedDisk.left new)
+    read.zones read.calls read.left
+    (stops_write (HasPartOfBlock shape first i block) shape (g.D.ZonedDisk.told middle) (g.D.ZonedDisk.zones middle) (g.D.ZonedDisk.calls middle) (g.D.ZonedDisk.calls new) (g.D.ZonedDisk.left middle) (g.D.ZonedDisk.left new)
+    (read.told ∙ c.requires.told) (d.leaves middle) c.write_block.ensures.calls
+    (first + i / shape.zone_blocks) (i % shape.zone_blocks) block (g.D.ZonedDisk.told new) (g.D.ZonedDisk.zones new) c.requires.inside (d.leaves new)
+    (λ low old before after e can image same is mixed. part_block shape first i block before after same image (omega arith) c.requires.inside c.requires.size mixed)
+    c.write_block.ensures.left)
 
 pub returns-clause-way : goal.returns-clause-way
 returns-clause-way g c =
@@ -66,7 +66,9 @@ returns-clause-way g c =
     c.write_block.ensures.ok)
     (on_err_weaker c.write_block.result (Both-more _ _ _ _ (λ old new e w.
     let same = Some-same _ _ (sym (d.agrees c.read_set_block.new.disk old e) ∙ read.told ∙ c.requires.told) in
-    part_block shape first i block old new same (d.shaped middle old e) (omega arith) c.requires.inside c.requires.size w))
+    let conv = ap (λ (s : Shape). s.conv) same in
+    part_block shape first i block old new same (d.shaped middle old e) (omega arith) c.requires.inside c.requires.size
+    (step_mixed old old new (first + i / shape.zone_blocks) (8 * (i % shape.zone_blocks)) block (omega (arith, conv, c.requires.inside)) w)))
     c.write_block.ensures.err))
 
 pub returns-clause-counted : goal.returns-clause-counted

@@ -1,19 +1,18 @@
-use Rattle.std.proofs.Common.{◌≡◌, Option, IsSomeAnd, sym, ◌∙◌, subst, arith}
+use Rattle.std.proofs.Common.{Option, IsSomeAnd, sym, ap, ◌∙◌, subst, arith}
 use Rattle.std.proofs.lemmas.Result.{on_ok_weaker}
 use Rattle.zd_base.specs.Geometry.{Shape}
 use Rattle.zd_model.specs.Image.{Same}
 use Rattle.zd_model.specs.Super.{HasSizes, block_of}
 use Rattle.zd_model.specs.declared.metadata.Super.{Super}
-use Rattle.zd_model.proofs.SuperSpelling.{spells}
 use Rattle.zd_disk.proofs.ToldLaws.{Some-same}
-use Rattle.zd_disk.specs.Steps.{WriteStep}
 use Rattle.zd_base.specs.Layout.{used_blocks}
-use Rattle.zd_sets.specs.Equal.{HasSuper, InSet}
+use Rattle.zd_sets.specs.Equal.{HasSuper}
 use Rattle.zd_sets.specs.Kept.{HasPartOfSuper}
 use Rattle.zd_sets.specs.Writes.{IsConventionalBlock, WroteBlock}
-use Rattle.zd_sets.proofs.EqualLaws.{Both-then, at_front, durable_new, ok_anyway, super_put}
-use Rattle.zd_sets.proofs.StopLaws.{stops_flush, stops_more, stops_then, stops_write}
-use Rattle.zd_sets.proofs.WayLaws.{Both-told, done_super, part_super}
+use Rattle.zd_sets.proofs.EqualLaws.{Both-then, durable_new, ok_anyway, super_put}
+use Rattle.zd_sets.proofs.MixLaws.{IsMixed, step_mixed}
+use Rattle.zd_sets.proofs.StopLaws.{stops_flush, stops_then, stops_write}
+use Rattle.zd_sets.proofs.WayLaws.{Both-told, done_super, part_super, super_way}
 use Rattle.zd_sets.proofs.equal.put_super.Goals as goal
 
 pub write_super-requires : goal.write_super-requires
@@ -47,30 +46,38 @@ returns-in_err-write_super-clause-left g c =
     let d = g.met.D.ZonedDisk in
     let some = c.zone_blocks-zone_blocks.ensures.shape.size.least in
     let shape = c.args.geometry.now in
-    stops_more (λ z k. (z ≡ c.args.chosen.now.other) × (k ≡ 0)) (InSet shape c.args.chosen.now.other 0 1) (g.D.ZonedDisk.zones c.args.disk.now) (g.D.ZonedDisk.calls c.args.disk.now) (g.D.ZonedDisk.calls c.write_super.new.disk) (g.D.ZonedDisk.left c.args.disk.now) (g.D.ZonedDisk.left c.write_super.new.disk)
-    (at_front shape c.args.chosen.now.other)
-    (stops_write shape c.args.chosen.now.other 0 8 (block_of c.head_at-head.result) (g.D.ZonedDisk.zones c.args.disk.now) (g.D.ZonedDisk.zones c.write_super.new.disk) (g.D.ZonedDisk.calls c.args.disk.now) (g.D.ZonedDisk.calls c.write_super.new.disk) (g.D.ZonedDisk.left c.args.disk.now) (g.D.ZonedDisk.left c.write_super.new.disk)
-    c.requires.placed.other (omega arith) (spells c.head_at-head.result c.head_at-head.ensures.sizes).bytes.count (omega arith) c.write_super.ensures.calls
-    (λ image can. (d.leaves c.args.disk.now (g.D.ZonedDisk.calls c.args.disk.now) image (omega arith) can).0)
-    (λ image can. Some-same _ _ (sym (d.leaves c.args.disk.now (g.D.ZonedDisk.calls c.args.disk.now) image (omega arith) can).1 ∙ c.requires.told))
-    c.write_super.ensures.left)
+    let chosen = c.args.chosen.now in
+    let old = c.args.disk.now in
+    let middle = c.write_super.new.disk in
+    let sizes = subst HasSizes c.head_at-head.ensures.value c.head_at-head.ensures.sizes in
+    stops_write (HasPartOfSuper shape chosen) shape (g.D.ZonedDisk.told old) (g.D.ZonedDisk.zones old) (g.D.ZonedDisk.calls old) (g.D.ZonedDisk.calls middle) (g.D.ZonedDisk.left old) (g.D.ZonedDisk.left middle)
+    c.requires.told (d.leaves old) c.write_super.ensures.calls chosen.other 0 (block_of c.head_at-head.result) (g.D.ZonedDisk.told middle) (g.D.ZonedDisk.zones middle) c.requires.placed.other (d.leaves middle)
+    (λ low reads before after e can image same is mixed.
+    part_super shape chosen (used_blocks shape chosen.head.layout) before after same image is c.requires.placed.other (omega arith) sizes (c.requires.ready low reads e before can)
+    (subst (λ (s : Super). IsMixed chosen.other 0 (block_of s) before after) c.head_at-head.ensures.value mixed))
+    c.write_super.ensures.left
 
 pub returns-clause-left : goal.returns-clause-left
 returns-clause-left g c =
     let d = g.met.D.ZonedDisk in
     let some = c.zone_blocks-zone_blocks.ensures.shape.size.least in
     let shape = c.args.geometry.now in
-    stops_then (InSet shape c.args.chosen.now.other 0 1) (WroteBlock c.args.chosen.now.other 0 (block_of c.head_at-head.result)) (g.D.ZonedDisk.zones c.args.disk.now) (g.D.ZonedDisk.zones c.write_super.new.disk) (g.D.ZonedDisk.calls c.args.disk.now) (g.D.ZonedDisk.calls c.write_super.new.disk) (g.D.ZonedDisk.calls c.flush.new.self) (g.D.ZonedDisk.left c.args.disk.now) (g.D.ZonedDisk.left c.write_super.new.disk) (g.D.ZonedDisk.left c.flush.new.self)
+    let chosen = c.args.chosen.now in
+    let old = c.args.disk.now in
+    let middle = c.write_super.new.disk in
+    let sizes = subst HasSizes c.head_at-head.ensures.value c.head_at-head.ensures.sizes in
+    let new = c.flush.new.self in
+    let way = super_way shape chosen c.requires.placed.other (omega arith) in
+    stops_then (HasPartOfSuper shape chosen) way.then (WroteBlock chosen.other 0 (block_of c.head_at-head.result)) (g.D.ZonedDisk.zones old) (g.D.ZonedDisk.zones middle) (g.D.ZonedDisk.calls old) (g.D.ZonedDisk.calls middle) (g.D.ZonedDisk.calls new) (g.D.ZonedDisk.left old) (g.D.ZonedDisk.left middle) (g.D.ZonedDisk.left new)
     (omega (arith, c.write_super.ensures.calls)) (omega (arith, c.flush.ensures.calls)) c.in_ok-write_super.ensures.ok
-    (stops_more (λ z k. (z ≡ c.args.chosen.now.other) × (k ≡ 0)) (InSet shape c.args.chosen.now.other 0 1) (g.D.ZonedDisk.zones c.args.disk.now) (g.D.ZonedDisk.calls c.args.disk.now) (g.D.ZonedDisk.calls c.write_super.new.disk) (g.D.ZonedDisk.left c.args.disk.now) (g.D.ZonedDisk.left c.write_super.new.disk)
-    (at_front shape c.args.chosen.now.other)
-    (stops_write shape c.args.chosen.now.other 0 8 (block_of c.head_at-head.result) (g.D.ZonedDisk.zones c.args.disk.now) (g.D.ZonedDisk.zones c.write_super.new.disk) (g.D.ZonedDisk.calls c.args.disk.now) (g.D.ZonedDisk.calls c.write_super.new.disk) (g.D.ZonedDisk.left c.args.disk.now) (g.D.ZonedDisk.left c.write_super.new.disk)
-    c.requires.placed.other (omega arith) (spells c.head_at-head.result c.head_at-head.ensures.sizes).bytes.count (omega arith) c.write_super.ensures.calls
-    (λ image can. (d.leaves c.args.disk.now (g.D.ZonedDisk.calls c.args.disk.now) image (omega arith) can).0)
-    (λ image can. Some-same _ _ (sym (d.leaves c.args.disk.now (g.D.ZonedDisk.calls c.args.disk.now) image (omega arith) can).1 ∙ c.requires.told))
-    c.write_super.ensures.left))
-    (stops_flush (InSet shape c.args.chosen.now.other 0 1) (g.D.ZonedDisk.zones c.write_super.new.disk) (g.D.ZonedDisk.calls c.write_super.new.disk) (g.D.ZonedDisk.calls c.flush.new.self) (g.D.ZonedDisk.left c.write_super.new.disk) (g.D.ZonedDisk.left c.flush.new.self) c.flush.ensures.calls
-    (λ image can. (d.leaves c.write_super.new.disk (g.D.ZonedDisk.calls c.write_super.new.disk) image (omega arith) can).0) c.flush.ensures.left)
+    (stops_write (HasPartOfSuper shape chosen) shape (g.D.ZonedDisk.told old) (g.D.ZonedDisk.zones old) (g.D.ZonedDisk.calls old) (g.D.ZonedDisk.calls middle) (g.D.ZonedDisk.left old) (g.D.ZonedDisk.left middle)
+    c.requires.told (d.leaves old) c.write_super.ensures.calls chosen.other 0 (block_of c.head_at-head.result) (g.D.ZonedDisk.told middle) (g.D.ZonedDisk.zones middle) c.requires.placed.other (d.leaves middle)
+    (λ low reads before after e can image same is mixed.
+    part_super shape chosen (used_blocks shape chosen.head.layout) before after same image is c.requires.placed.other (omega arith) sizes (c.requires.ready low reads e before can)
+    (subst (λ (s : Super). IsMixed chosen.other 0 (block_of s) before after) c.head_at-head.ensures.value mixed))
+    c.write_super.ensures.left)
+    (stops_flush (HasPartOfSuper shape chosen) shape (g.D.ZonedDisk.told middle) (g.D.ZonedDisk.zones middle) (g.D.ZonedDisk.calls middle) (g.D.ZonedDisk.calls new) (g.D.ZonedDisk.left middle) (g.D.ZonedDisk.left new)
+    (c.in_ok-write_super.ensures.told ∙ c.requires.told) (d.leaves middle) c.flush.ensures.calls way.same c.flush.ensures.left)
 
 pub returns-in_err-write_super-clause-way : goal.returns-in_err-write_super-clause-way
 returns-in_err-write_super-clause-way g c =
@@ -82,7 +89,8 @@ returns-in_err-write_super-clause-way g c =
     Both-told _ _ _ _ (λ old new e n w.
     let told = Some-same _ _ (sym (d.agrees c.args.disk.now old e) ∙ c.requires.told) in
     part_super shape chosen (used_blocks shape chosen.head.layout) old new told (d.shaped c.args.disk.now old e) (d.shaped c.write_super.new.disk new n) c.requires.placed.other (omega arith) sizes
-    (c.requires.now old e) (subst (λ (s : Super). WriteStep old chosen.other 0 (block_of s) old new) c.head_at-head.ensures.value w))
+    (c.requires.now old e) (subst (λ (s : Super). IsMixed chosen.other 0 (block_of s) old new) c.head_at-head.ensures.value
+    (let conv = ap (λ (s : Shape). s.conv) told in step_mixed old old new chosen.other 0 (block_of c.head_at-head.result) (omega (arith, conv, c.requires.placed.other)) w)))
     c.in_err-write_super.ensures.err
 
 pub returns-clause-way : goal.returns-clause-way
