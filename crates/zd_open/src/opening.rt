@@ -45,8 +45,9 @@ fn settle<D: ZonedDisk>(disk: &mut D) -> Result<Geometry, Failed>
 /// four more, and two more where the other super block is bad.
 ///
 /// A stop at any moment of the call leaves the same volume too, where a stop before would have left what
-/// the disk read as. Where it would not have, that is so from the answer of the flush on, and until then a
-/// stop leaves what it could have left before. After Ok it leaves what the disk reads as.
+/// the disk read as. Where it would not have, that is so from the end of the flush on, unless the answer is
+/// `Device`; then, and before the end of the flush, a stop may also leave what it could have left before the
+/// call. After Ok it leaves what the disk reads as.
 pub fn open<D: ZonedDisk>(alloc: Global, disk: &mut D) -> Result<Image, OpenFault>
     ensures ok { IfOk result (λ v. Both (D.zones disk.old) (D.zones disk.new)
         (IsOpened v.geometry v.chosen v.blocks v.pointers.items)) }

@@ -32,9 +32,8 @@ mixed_only d i zone x n bytes image low inside size few w =
       ];
     }
 
--- a way in which images of a geometry change: to stay is one, to hold the same, and one after another
+-- a way in which images of a geometry change: to hold the same is one, and one after another
 pub record IsWay (g : Shape) (R : Image → Image → Type 0) : Type 0 where
-  pub stays : (d : Image) → R d d
   pub same : (d i : Image) → IsImage d → d.geometry ≡ g → Same d i → R d i
   pub then : (a b c : Image) → R a b → R b c → R a c
 
@@ -102,18 +101,6 @@ stops_more P Q g t o a c p r told are f h low i e =
       each = λ k j above below can. let one = leaves.each k j above below can in
           (one.0, one.1, f one.0 j (Some-same _ _ (sym (are a one.0 (omega arith) one.1).1 ∙ told)) one.2);
     }
-
-pub stops_read : (R : Image → Image → Type 0) → ((d : Image) → R d d) → (o : Option Image) (a c : ℕ) (p r : ℕ → Image → Type 0)
-    → c ≡ a → Keeps p r → StopsLeave R o a p c r
-stops_read R stays o a c p r one keeps low image e = record {
-  earlier = λ k i under can. keeps.only k i can;
-  each = λ k i above below can.
-      (i, subst (λ (n : ℕ). p n i) (let e : k ≡ a = omega arith in e) (keeps.only k i can), stays i);
-}
-
-pub stops_none : (R : Image → Image → Type 0) → ((d : Image) → R d d) → (o : Option Image) (a : ℕ) (p : ℕ → Image → Type 0)
-    → StopsLeave R o a p a p
-stops_none R stays o a p = stops_read R stays o a a p p refl (record { only = λ k i can. can; kept = λ k i can. can })
 
 -- a writing call behind reads
 pub stops_after_read : (R : Image → Image → Type 0) (o m : Option Image) (a b c : ℕ) (p q r : ℕ → Image → Type 0) → m ≡ o → b ≡ a

@@ -15,7 +15,7 @@ use Rattle.zd_sets.specs.Choice.{IsChoice, IsPlaced, chosen_of}
 use Rattle.zd_sets.specs.Equal.{HasBlock, HasBlocks, HasSuper, InSet, IsCleared, IsReady, OnlyAt, head_at}
 use Rattle.zd_sets.specs.Kept.{HasMagicOf, HasPartOfBlock, HasPartOfBlocks, HasPartOfSuper, IsOnTheWay, IsPartCleared, KeepsVolume}
 use Rattle.zd_sets.specs.declared.choice.Chosen.{Chosen as Choice}
-use Rattle.zd_sets.proofs.EqualLaws.{Both-then, at_front, first_block, only_more, only_same, only_then, same_good, same_only, same_place, set_still, there_inside}
+use Rattle.zd_sets.proofs.EqualLaws.{Both-then, at_front, first_block, only_more, only_then, same_good, same_only, same_place, set_still, there_inside}
 use Rattle.zd_sets.proofs.KeptLaws.{keeps_volume}
 use Rattle.zd_sets.proofs.MixLaws.{IsMixed, mixed_mark, mixed_over_good, mixed_over_zeros, mixed_zeros, zeros_bad}
 use Rattle.zd_sets.proofs.StopLaws.{IsWay, mixed_only}
@@ -151,7 +151,6 @@ one_of_blocks g first from i end bytes a b some shape low high inside part = rec
 pub blocks_way : (g : Shape) (first from end : ℕ) (bytes : List ℕ) → 0 < g.zone_blocks
     → ((k : ℕ) → k < end → first + k / g.zone_blocks < g.conv) → IsWay g (HasPartOfBlocks g first from end bytes)
 blocks_way g first from end bytes some inside = record {
-  stays = λ a. record { only = only_same (InSet g first from end) a; marks = λ k above below. inl refl };
   same = λ d i image shape same. record {
     only = same_only (InSet g first from end) d i image same;
     marks = λ k above below. inl (ap has_magic
@@ -171,7 +170,6 @@ blocks_way g first from end bytes some inside = record {
 
 pub clear_way : (g : Shape) (zone : ℕ) (good : Bool) → zone < g.conv → 0 < g.zone_blocks → IsWay g (IsPartCleared g zone good)
 clear_way g zone good low some = record {
-  stays = λ a. record { only = only_same (InSet g zone 0 1) a; super = inl refl };
   same = λ d i image shape same. (
       let conv = ap (λ (s : Shape). s.conv) shape in
       let blocks = ap (λ (s : Shape). s.zone_blocks) shape in
@@ -193,7 +191,6 @@ clear_way g zone good low some = record {
 
 pub super_way : (g : Shape) (c : Choice) → c.other < g.conv → 0 < g.zone_blocks → IsWay g (HasPartOfSuper g c)
 super_way g choice low some = record {
-  stays = λ a. record { only = only_same (InSet g choice.other 0 1) a; super = inl refl };
   same = λ d i image shape same. (
       let conv = ap (λ (s : Shape). s.conv) shape in
       let blocks = ap (λ (s : Shape). s.zone_blocks) shape in
