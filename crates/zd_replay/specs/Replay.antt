@@ -91,6 +91,14 @@ IsSessionStatus status = IsTrue (list_any (λ s. s == status) (0 ∷ 3 ∷ 4 ∷
 abbrev pub IsUntouched : ℕ → Type 0
 IsUntouched status = IsTrue (list_any (λ s. s == status) (1 ∷ 2 ∷ 5 ∷ 11 ∷ []))
 
+-- those that come only once opening's flush has answered Ok
+abbrev pub IsSettledStatus : ℕ → Type 0
+IsSettledStatus status = IsTrue (list_any (λ s. s == status) (0 ∷ 3 ∷ 6 ∷ []))
+
+-- those that come only once the volume is opened
+abbrev pub IsOpenedStatus : ℕ → Type 0
+IsOpenedStatus status = IsTrue (list_any (λ s. s == status) (0 ∷ 6 ∷ []))
+
 -- those of a script that can't be read
 abbrev pub IsRefusalStatus : ℕ → Type 0
 IsRefusalStatus status = IsTrue (list_any (λ s. s == status) (2 ∷ 5 ∷ 7 ∷ []))

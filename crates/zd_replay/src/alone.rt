@@ -1,13 +1,15 @@
 //! A run by one caller, from words and bytes to the report.
 
-ghost use Rattle.std.specs.Prelude.{◌≡◌, ◌⊎◌, Some, ◌↔◌, ◌≤◌, ℕ, List, [], map, string_bytes};
+ghost use Rattle.std.specs.Prelude.{◌≡◌, ◌⊎◌, Some, ◌↔◌, ◌+◌, ◌≤◌, ℕ, List, [], map, string_bytes};
 ghost use Rattle.zd_base.specs.Faults.{Rose};
+ghost use Rattle.zd_disk.specs.Growth.{Keeps};
 ghost use Rattle.zd_disk.specs.Told.{Both, WhereTold};
-ghost use Rattle.zd_open.specs.Opened.{IsFlushed, IsKept};
+ghost use Rattle.zd_open.specs.Opened.{IsFlushed, IsKept, StopsKeep, StopsLeaveOrKeep};
+ghost use Rattle.zd_sets.specs.Equal.{IsDurable};
 ghost use Rattle.zd_ports.specs.Taking.{IsFaultless, IsTaken};
 ghost use Rattle.zd_replay.specs.Base.{HasItsPointers, IsOpenVolume, served_by};
 ghost use Rattle.zd_replay.specs.Reads.{IsScriptOfReads};
-ghost use Rattle.zd_replay.specs.Replay.{IsCommand, IsReadPlan, script_outcome, open_outcome, IsHistory, IsRight, IsStatus, IsSessionStatus, IsRefusalStatus, IsUntouched, Tells, Reports, WhereAllTold, AreCounted};
+ghost use Rattle.zd_replay.specs.Replay.{IsCommand, IsReadPlan, script_outcome, open_outcome, IsHistory, IsRight, IsStatus, IsOpenedStatus, IsSettledStatus, IsSessionStatus, IsRefusalStatus, IsUntouched, Tells, Reports, WhereAllTold, AreCounted};
 
 use crate::report::{tell_all, tell_alone, tell_end};
 use crate::run::run;
@@ -75,6 +77,8 @@ fn run_plan<D: ZonedDisk>(
     ensures counted { AreCounted result.0.items (D.faults disk.old) (D.faults disk.new) }
     ensures ending { (result.1 ≡ Ending.Ok) ⊎ (result.1 ≡ Ending.Stopped Why.Memory) }
     ensures zones { D.zones disk.new ≡ D.zones disk.old }
+    ensures calls { D.calls disk.new ≡ D.calls disk.old }
+    ensures left { Keeps (D.left disk.old) (D.left disk.new) }
 {
     let zone_blocks = volume.geometry.zone_blocks();
     let blocks = u64::from(volume.chosen.head.layout.chunks) * u64::from(zone_blocks);
@@ -98,6 +102,15 @@ fn session<D: ZonedDisk, K: Sink>(alloc: Global, disk: &mut D, plan: &Plan, out:
     ensures kept { Both (D.zones disk.old) (D.zones disk.new) IsKept }
     ensures refused { result.0 ≡ 3 →
         IsFlushed (D.zones disk.old) (D.zones disk.new) (D.calls disk.old) (D.calls disk.new) }
+    ensures calls { D.calls disk.old ≤ D.calls disk.new }
+    ensures left { StopsLeaveOrKeep (D.zones disk.old) (D.calls disk.old) (D.left disk.old)
+        (D.calls disk.new) (D.left disk.new) }
+    ensures safe { IsDurable (D.zones disk.old) (D.calls disk.old) (D.left disk.old) →
+        StopsKeep (D.zones disk.old) (D.calls disk.old) (D.calls disk.new) (D.left disk.new) }
+    ensures settled { IsSettledStatus result.0 →
+        StopsKeep (D.zones disk.old) (D.calls disk.old + 1) (D.calls disk.new) (D.left disk.new) }
+    ensures durable { IsOpenedStatus result.0 →
+        IsDurable (D.zones disk.new) (D.calls disk.new) (D.left disk.new) }
 {
     let volume = match open(alloc, disk) {
         Ok(volume) => volume,
@@ -116,6 +129,10 @@ fn session<D: ZonedDisk, K: Sink>(alloc: Global, disk: &mut D, plan: &Plan, out:
 /// script, 3 where the disk is no volume, 4 where it failed in opening, 5 where the source failed, 6 where
 /// the sink failed and nothing else was wrong, 7 where no memory was found, and 11 where a request is
 /// no read of caller 0.
+///
+/// A stop at any moment of the run leaves the disk as it was, or the same volume, where a stop before would
+/// have left what the disk read as. Where it would not have, that is so from the answer of opening's flush
+/// on.
 pub fn replay_alone<D: ZonedDisk, S: Source, K: Sink>(
     alloc: Global,
     words: &[String],
@@ -143,6 +160,16 @@ pub fn replay_alone<D: ZonedDisk, S: Source, K: Sink>(
     ensures same { IsUntouched result.0.0 → result.1 ≡ disk }
     ensures refused { result.0.0 ≡ 3 →
         IsFlushed (D.zones disk) (D.zones result.1) (D.calls disk) (D.calls result.1) }
+
+    // What a stop leaves, at each moment of the run.
+    ensures left { StopsLeaveOrKeep (D.zones disk) (D.calls disk) (D.left disk)
+        (D.calls result.1) (D.left result.1) }
+    ensures safe { IsDurable (D.zones disk) (D.calls disk) (D.left disk) →
+        StopsKeep (D.zones disk) (D.calls disk) (D.calls result.1) (D.left result.1) }
+    ensures settled { IsSettledStatus result.0.0 →
+        StopsKeep (D.zones disk) (D.calls disk + 1) (D.calls result.1) (D.left result.1) }
+    ensures durable { IsOpenedStatus result.0.0 →
+        IsDurable (D.zones result.1) (D.calls result.1) (D.left result.1) }
 
     // Where nothing is wrong and nothing fails, all is done, unless no memory is found.
     ensures complete { WhereAllTold (D.zones disk) (S.left script.old) (K.held out.old)

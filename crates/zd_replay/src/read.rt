@@ -3,6 +3,7 @@
 ghost use Rattle.std.specs.Prelude.{◌≡◌, ◌+◌, ◌-◌, ◌*◌, ◌/◌, ◌%◌, ◌<◌, ◌≤◌, ◌++◌, Some, IfOk, OnOk, length, take, drop, replicate};
 ghost use Rattle.zd_base.specs.Faults.{HasCause, Rose};
 ghost use Rattle.zd_base.specs.Geometry.{zone_count};
+ghost use Rattle.zd_disk.specs.Growth.{Keeps};
 ghost use Rattle.zd_disk.specs.Told.{WhereTold};
 ghost use Rattle.zd_model.specs.Entries.{answer_of};
 ghost use Rattle.zd_model.specs.Image.{run_of};
@@ -50,6 +51,8 @@ fn read_run<D: ZonedDisk>(
     ensures rest { drop (start + 4096 * count) into.new ≡ drop (start + 4096 * count) into.old }
     ensures told { D.told disk.new ≡ D.told disk.old }
     ensures zones { D.zones disk.new ≡ D.zones disk.old }
+    ensures calls { D.calls disk.new ≡ D.calls disk.old }
+    ensures left { Keeps (D.left disk.old) (D.left disk.new) }
     ensures cause { HasCause (D.faults disk.old) (D.faults disk.new) result }
 {
     let _zone_blocks = geometry.zone_blocks();
@@ -84,6 +87,8 @@ fn read_next_run<D: ZonedDisk>(
         drop (start + 4096 * run) into.new ≡ replicate (4096 * (end - at - run)) 0) }
     ensures told { D.told disk.new ≡ D.told disk.old }
     ensures zones { D.zones disk.new ≡ D.zones disk.old }
+    ensures calls { D.calls disk.new ≡ D.calls disk.old }
+    ensures left { Keeps (D.left disk.old) (D.left disk.new) }
     ensures cause { HasCause (D.faults disk.old) (D.faults disk.new) result }
 {
     let (place, run) = chunk_run(volume, entry, at, end);
@@ -113,6 +118,8 @@ fn read_runs<D: ZonedDisk>(
         into.new ≡ chunk_blocks (tables_of_volume volume.now) entry.now image from count)) }
     ensures told { D.told disk.new ≡ D.told disk.old }
     ensures zones { D.zones disk.new ≡ D.zones disk.old }
+    ensures calls { D.calls disk.new ≡ D.calls disk.old }
+    ensures left { Keeps (D.left disk.old) (D.left disk.new) }
     ensures cause { HasCause (D.faults disk.old) (D.faults disk.new) result }
 {
     let _zone_blocks = volume.geometry.zone_blocks();
@@ -145,6 +152,8 @@ pub fn read_data<D: ZonedDisk>(
     ensures fault { IfOk result (λ reply. answer_of reply ≡ Fault → Rose (D.faults disk.old) (D.faults disk.new)) }
     ensures told { D.told disk.new ≡ D.told disk.old }
     ensures zones { D.zones disk.new ≡ D.zones disk.old }
+    ensures calls { D.calls disk.new ≡ D.calls disk.old }
+    ensures left { Keeps (D.left disk.old) (D.left disk.new) }
     ensures later { D.faults disk.old ≤ D.faults disk.new }
 {
     let zone_blocks = u64::from(volume.geometry.zone_blocks());

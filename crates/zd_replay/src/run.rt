@@ -4,6 +4,7 @@ ghost use Rattle.std.specs.Prelude.{◌≡◌, ◌⊎◌, ◌*◌, ◌≤◌, �
 ghost use Rattle.std.specs.List.{AllByRecursion};
 ghost use Rattle.zd_base.specs.Faults.{Rose};
 ghost use Rattle.zd_base.specs.Layout.{device_blocks};
+ghost use Rattle.zd_disk.specs.Growth.{Keeps};
 ghost use Rattle.zd_disk.specs.Told.{WhereTold};
 ghost use Rattle.zd_model.specs.Entries.{answer_of, entry_of};
 ghost use Rattle.zd_model.specs.History.{mark_of_entry, mark_of_piece};
@@ -37,6 +38,8 @@ fn reply_to<D: ZonedDisk>(
     ensures fault { IfOk result (λ reply. answer_of reply ≡ Fault → Rose (D.faults disk.old) (D.faults disk.new)) }
     ensures told { D.told disk.new ≡ D.told disk.old }
     ensures zones { D.zones disk.new ≡ D.zones disk.old }
+    ensures calls { D.calls disk.new ≡ D.calls disk.old }
+    ensures left { Keeps (D.left disk.old) (D.left disk.new) }
     ensures later { D.faults disk.old ≤ D.faults disk.new }
 {
     if piece.range {
@@ -69,6 +72,8 @@ fn answer<D: ZonedDisk>(
     ensures fault { IfOk result (λ e. (entry_of e).reply ≡ Fault → Rose (D.faults disk.old) (D.faults disk.new)) }
     ensures told { D.told disk.new ≡ D.told disk.old }
     ensures zones { D.zones disk.new ≡ D.zones disk.old }
+    ensures calls { D.calls disk.new ≡ D.calls disk.old }
+    ensures left { Keeps (D.left disk.old) (D.left disk.new) }
     ensures later { D.faults disk.old ≤ D.faults disk.new }
 {
     let reply = reply_to(alloc, disk, volume, piece)?;
@@ -105,6 +110,8 @@ fn enter<D: ZonedDisk>(
     ensures same { OnErr result (history.new.items ≡ history.old.items) }
     ensures told { D.told disk.new ≡ D.told disk.old }
     ensures zones { D.zones disk.new ≡ D.zones disk.old }
+    ensures calls { D.calls disk.new ≡ D.calls disk.old }
+    ensures left { Keeps (D.left disk.old) (D.left disk.new) }
 {
     let entry = answer(alloc, disk, volume, piece)?;
     history.push(entry)
@@ -130,6 +137,8 @@ pub fn run<D: ZonedDisk>(
     ensures counted { AreCounted result.0.items (D.faults disk.old) (D.faults disk.new) }
     ensures ending { (result.1 ≡ Ending.Ok) ⊎ (result.1 ≡ Ending.Stopped Why.Memory) }
     ensures zones { D.zones disk.new ≡ D.zones disk.old }
+    ensures calls { D.calls disk.new ≡ D.calls disk.old }
+    ensures left { Keeps (D.left disk.old) (D.left disk.new) }
 {
     let mut history = History::new(alloc);
     for piece in pieces {

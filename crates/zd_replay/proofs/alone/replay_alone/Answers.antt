@@ -6,6 +6,7 @@ use Rattle.zd_model.specs.declared.requests.Request.{Request}
 use Rattle.zd_replay.specs.Reads.{IsScriptOfReads, IsOtherScript}
 use Rattle.zd_replay.specs.Replay.{IsCommand, IsSessionStatus, IsRefusalStatus, script_outcome}
 use Rattle.zd_replay.proofs.ReportLaws.{reports_alone, reports_end, ends_unread, unread, unbuilt, no_usage, not_four, of_line}
+use Rattle.zd_replay.proofs.LeftLaws.{untouched_keeps}
 use Rattle.zd_replay.proofs.CompleteLaws.{complete, other_or_reads}
 use Rattle.zd_replay.proofs.alone.replay_alone.Goals as goal
 
@@ -52,3 +53,12 @@ pub returns-then-not-has_reads_alone-clause-complete : goal.returns-then-not-has
 returns-then-not-has_reads_alone-clause-complete g c image bytes before z left held right no_device no_source no_sink =
     let others : IsOtherScript bytes c.in-Ok.plan = record { script = c.in-Ok.ensures.ok bytes left; others = λ h. false≢true (sym c.if-not-has_reads_alone.true ∙ c.has_reads_alone.ensures.1 h) } in
     absurd (other_or_reads bytes c.in-Ok.plan right.script.0 others right.script.1)
+
+pub returns-then-not-is_command-clause-safe : goal.returns-then-not-is_command-clause-safe
+returns-then-not-is_command-clause-safe g c = untouched_keeps (g.D.ZonedDisk.zones c.args.disk) (g.D.ZonedDisk.calls c.args.disk) (g.D.ZonedDisk.left c.args.disk)
+
+pub returns-in-Err-clause-safe : goal.returns-in-Err-clause-safe
+returns-in-Err-clause-safe g c = untouched_keeps (g.D.ZonedDisk.zones c.args.disk) (g.D.ZonedDisk.calls c.args.disk) (g.D.ZonedDisk.left c.args.disk)
+
+pub returns-then-not-has_reads_alone-clause-safe : goal.returns-then-not-has_reads_alone-clause-safe
+returns-then-not-has_reads_alone-clause-safe g c = untouched_keeps (g.D.ZonedDisk.zones c.args.disk) (g.D.ZonedDisk.calls c.args.disk) (g.D.ZonedDisk.left c.args.disk)

@@ -1,4 +1,5 @@
-use Rattle.std.proofs.Common.{◌≡◌, ◌⊎◌, ℕ, List, refl, Err, ◌∙◌, ap, sym, subst, inl, inr, arith}
+use Rattle.std.proofs.Common.{◌≡◌, ◌⊎◌, ◌+◌, ℕ, List, refl, Err, ◌∙◌, ap, sym, subst, inl, inr, arith}
+use Rattle.std.proofs.lemmas.Bool.{false≢true}
 use Rattle.zd_base.specs.Geometry.{Shape}
 use Rattle.zd_model.specs.declared.requests.Ending.TheVariants as endings
 use Rattle.zd_model.specs.declared.texts.Outcome.{Outcome}
@@ -6,9 +7,10 @@ use Rattle.zd_model.specs.declared.texts.Outcome.TheVariants as outcomes
 use Rattle.zd_open.specs.Opened.{IsOpened}
 use Rattle.zd_sets.proofs.StopLaws.{Both-first}
 use Rattle.zd_replay.specs.Base.{base_of, served_by}
-use Rattle.zd_replay.specs.Replay.{Ends, HasStatus, IsHistory, no_memory}
+use Rattle.zd_replay.specs.Replay.{Ends, HasStatus, IsHistory, no_memory, IsSettledStatus}
 use Rattle.zd_replay.proofs.BaseLaws.{base_is}
-use Rattle.zd_replay.proofs.ReportLaws.{reports, reports_end, ends_unopened, unopened, unopened_status, ends_run, history_of, ran_status}
+use Rattle.zd_replay.proofs.LeftLaws.{durable_read, keep_read, left_read}
+use Rattle.zd_replay.proofs.ReportLaws.{no_refusal, ok_no_fault, reports, reports_end, ends_unopened, unopened, unopened_status, ends_run, history_of, ran_status}
 use Rattle.zd_replay.proofs.RunLaws.{counted_later}
 use Rattle.zd_replay.proofs.alone.session.Goals as goal
 
@@ -91,3 +93,31 @@ returns-clause-report g c words bytes right script image z before held =
       | inr (inl six) ↦ omega (arith, four, six)
       | inr (inr seven) ↦ omega (arith, four, seven)
     ]) (c.tell_all.ensures.told before held)
+
+pub returns-in-Err-clause-settled : goal.returns-in-Err-clause-settled
+returns-in-Err-clause-settled g c is =
+    elim (unopened_status c.in-Err.fault c.tell_end.result.0 (subst (λ (o : Outcome). HasStatus o c.tell_end.result.0 ⊎ HasStatus no_memory c.tell_end.result.0) c.open_outcome.ensures c.tell_end.ensures.answers)) [
+      | inl three ↦ c.open.ensures.settled (λ e. no_refusal c.in-Err.fault three.1 (sym c.in-Err.is ∙ e))
+      | inr (inl four) ↦ absurd (false≢true (subst IsSettledStatus four.0 is))
+      | inr (inr seven) ↦ absurd (false≢true (subst IsSettledStatus seven is))
+    ]
+
+pub returns-clause-left : goal.returns-clause-left
+returns-clause-left g c =
+    left_read (g.D.ZonedDisk.zones c.args.disk.now) (g.D.ZonedDisk.zones c.open.new.disk) (g.D.ZonedDisk.zones c.run_plan-history.new.disk) (g.D.ZonedDisk.calls c.args.disk.now) (g.D.ZonedDisk.calls c.open.new.disk) (g.D.ZonedDisk.calls c.run_plan-history.new.disk) (g.D.ZonedDisk.left c.args.disk.now) (g.D.ZonedDisk.left c.open.new.disk) (g.D.ZonedDisk.left c.run_plan-history.new.disk)
+    c.run_plan-history.ensures.calls c.run_plan-history.ensures.left c.open.ensures.left
+
+pub returns-clause-safe : goal.returns-clause-safe
+returns-clause-safe g c durable =
+    keep_read (g.D.ZonedDisk.zones c.args.disk.now) (g.D.ZonedDisk.zones c.open.new.disk) (g.D.ZonedDisk.zones c.run_plan-history.new.disk) (g.D.ZonedDisk.calls c.args.disk.now) (g.D.ZonedDisk.calls c.open.new.disk) (g.D.ZonedDisk.calls c.run_plan-history.new.disk) (g.D.ZonedDisk.left c.args.disk.now) (g.D.ZonedDisk.left c.open.new.disk) (g.D.ZonedDisk.left c.run_plan-history.new.disk)
+    c.run_plan-history.ensures.calls c.run_plan-history.ensures.left (g.D.ZonedDisk.calls c.args.disk.now) (c.open.ensures.safe durable)
+
+pub returns-clause-settled : goal.returns-clause-settled
+returns-clause-settled g c status =
+    keep_read (g.D.ZonedDisk.zones c.args.disk.now) (g.D.ZonedDisk.zones c.open.new.disk) (g.D.ZonedDisk.zones c.run_plan-history.new.disk) (g.D.ZonedDisk.calls c.args.disk.now) (g.D.ZonedDisk.calls c.open.new.disk) (g.D.ZonedDisk.calls c.run_plan-history.new.disk) (g.D.ZonedDisk.left c.args.disk.now) (g.D.ZonedDisk.left c.open.new.disk) (g.D.ZonedDisk.left c.run_plan-history.new.disk)
+    c.run_plan-history.ensures.calls c.run_plan-history.ensures.left (g.D.ZonedDisk.calls c.args.disk.now + 1) (c.open.ensures.settled (λ e. ok_no_fault (sym c.in-Ok.is ∙ e)))
+
+pub returns-clause-durable : goal.returns-clause-durable
+returns-clause-durable g c status =
+    durable_read (g.D.ZonedDisk.zones c.args.disk.now) (g.D.ZonedDisk.zones c.open.new.disk) (g.D.ZonedDisk.zones c.run_plan-history.new.disk) (g.D.ZonedDisk.calls c.args.disk.now) (g.D.ZonedDisk.calls c.open.new.disk) (g.D.ZonedDisk.calls c.run_plan-history.new.disk) (g.D.ZonedDisk.left c.args.disk.now) (g.D.ZonedDisk.left c.open.new.disk) (g.D.ZonedDisk.left c.run_plan-history.new.disk)
+    c.run_plan-history.ensures.calls c.run_plan-history.ensures.left c.run_plan-history.ensures.zones c.in-Ok.ensures.durable

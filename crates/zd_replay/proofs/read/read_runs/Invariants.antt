@@ -1,4 +1,5 @@
 use Rattle.std.proofs.Common.{◌≡◌, ◌≤◌, ◌*◌, ◌-◌, length, take, drop, replicate}
+use Rattle.zd_disk.specs.Growth.{Keeps}
 use Rattle.zd_disk.specs.Told.{WhereTold}
 use Rattle.zd_replay.specs.Base.{tables_of_volume}
 use Rattle.zd_replay.specs.Run.{chunk_blocks}
@@ -14,6 +15,8 @@ invariant-loop-at g l =
       size : length l.into ≡ 4096 * l.count;
       told : d.told l.disk ≡ d.told l.fn.disk;
       zones : d.zones l.disk ≡ d.zones l.fn.disk;
+      calls : d.calls l.disk ≡ d.calls l.fn.disk;
+      left : Keeps (d.left l.fn.disk) (d.left l.disk);
       later : d.faults l.fn.disk ≤ d.faults l.disk;
       read : WhereTold (d.zones l.fn.disk) (λ image.
           take (4096 * (l.at - l.from)) l.into ≡ chunk_blocks (tables_of_volume l.volume) l.entry image l.from (l.at - l.from));

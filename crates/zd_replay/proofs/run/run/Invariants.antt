@@ -1,5 +1,6 @@
 use Rattle.std.proofs.Common.{◌≡◌, take, map}
 use Rattle.std.specs.List.{AllByRecursion}
+use Rattle.zd_disk.specs.Growth.{Keeps}
 use Rattle.zd_disk.specs.Told.{WhereTold}
 use Rattle.zd_model.specs.History.{mark_of_entry, mark_of_piece}
 use Rattle.zd_replay.specs.Base.{served_by}
@@ -14,6 +15,8 @@ invariant-loop-piece g l =
     record {
       told : d.told l.disk ≡ d.told l.fn.disk;
       zones : d.zones l.disk ≡ d.zones l.fn.disk;
+      calls : d.calls l.disk ≡ d.calls l.fn.disk;
+      left : Keeps (d.left l.fn.disk) (d.left l.disk);
       marks : map mark_of_entry l.history.items ≡ map mark_of_piece (take l.piece-index l.pieces);
       entries : WhereTold (d.zones l.fn.disk) (λ image.
           AllByRecursion (IsReadEntry (served_by l.volume image)) l.history.items);
