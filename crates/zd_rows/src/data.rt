@@ -10,10 +10,11 @@ use std::fs;
 use std::process::Abort;
 use std::rt::Files;
 use std::test::Fail;
-use zd_base::{Layout, ZoneNo};
+use zd_base::{Layout, SECTOR, ZoneNo};
 use zd_disk::FileDisk;
 use zd_memdisk::{DeviceCall, Fail as Failing, MemDisk};
 use zd_open::examine;
+use zd_plain::pattern;
 
 /// The volume of the rows with one block of data, block 1 of chunk 0, in zone 2.
 fn one_block(rt: &(impl Abort + AllocGlobal)) -> Result<MemDisk, Fail> {
@@ -92,6 +93,16 @@ fn each_run_is_one_call_and_a_failed_one_is_told(rt: HostRuntime) -> Result<(), 
     Ok(())
 }
 
+/// Block 0 with one seed in its first four sectors, and another in the rest.
+fn in_halves(first: u32, second: u32) -> [u8; 4096] {
+    let mut bytes = patterned(second, 0);
+    for i in 0..4u32 {
+        let at = SECTOR * i as usize;
+        pattern(first, u64::from(i), &mut bytes[at..at + SECTOR]);
+    }
+    bytes
+}
+
 /// One block of two patterns, as a stop leaves it in the middle of a write.
 #[test]
 fn a_block_may_have_sectors_of_two_writes(rt: HostRuntime) -> Result<(), Fail> {
@@ -101,9 +112,7 @@ fn a_block_may_have_sectors_of_two_writes(rt: HostRuntime) -> Result<(), Fail> {
         seed: 1,
     };
     let mut disk = with_chunk(&rt, 2, NONE, &[data])?;
-    let mut bytes = patterned(1, 0);
-    bytes[..2048].copy_from_slice(&patterned(2, 0)[..2048]);
-    put(&rt, &mut disk, 2, 0, &bytes)?;
+    put(&rt, &mut disk, 2, 0, &in_halves(2, 1))?;
     let output = "0 1 0 r 0 1 data p2x4,p1x4 @0;end 0 ok;";
     expect(&rt, disk, "r 0 0 1;", output, 0)?;
     Ok(())
