@@ -1,5 +1,5 @@
 -- How many writing calls the steps make, one after another.
-use Rattle.std.proofs.Common.{◌≡◌, Option, is_some, Some, ℕ, ◌+◌, ◌-◌, ◌/◌, ◌<◌, ◌≤◌, Bool, true, not, cond, List, [], map, sum_by, count_by, sum, sym, ap, ap₂, ◌∙◌, inl, inr, arith}
+use Rattle.std.proofs.Common.{◌≡◌, Option, is_some, Some, ℕ, ◌+◌, ◌-◌, ◌/◌, ◌<◌, ◌≤◌, Bool, false, true≢false, not, cond, List, [], map, sum_by, count_by, sum, sym, ap, ap₂, ◌∙◌, inl, inr, arith}
 use Rattle.std.specs.List.{range_with_len}
 use Rattle.std.specs.Str.{bytes_eq}
 use Rattle.std.proofs.lemmas.Bool.{cases_Bool}
@@ -46,11 +46,11 @@ passing_same p q end same =
     sum_same (λ k. cond (p k) 1 0) (λ k. cond (q k) 1 0) (end - 1)
     (λ k low high. ap {B = ℕ} (λ (b : Bool). cond b 1 0) (same k low (omega arith)))
 
--- other blocks differ
-pub differ_apart : (xs ys : List ℕ) → (xs ≡ ys → ⊥) → differ xs ys ≡ true
-differ_apart xs ys other = elim (cases_Bool (bytes_eq xs ys)) [
-  | inl e ↦ absurd (other ((bytes_eq-Decides xs ys).0 e))
-  | inr e ↦ ap not e
+-- blocks that a comparison tells apart differ
+pub differ_by : (there block : List ℕ) → bytes_eq block there ≡ false → ◌≡◌ {A = ℕ} (cond (differ there block) 1 0) 1
+differ_by there block other = elim (cases_Bool (bytes_eq there block)) [
+  | inl e ↦ absurd (true≢false (sym ((bytes_eq-Decides block there).1 (sym ((bytes_eq-Decides there block).0 e))) ∙ other))
+  | inr e ↦ ap {B = ℕ} (λ (b : Bool). cond (not b) 1 0) e
 ]
 
 -- one writing call is one more, while the count is below its end

@@ -1,11 +1,11 @@
-use Rattle.std.proofs.Common.{ℕ, ◌+◌, ◌/◌, ◌%◌, Option, OnOk, Bool, true≢false, cond, ap, sym, ◌∙◌, subst, arith, ◌*◌}
+use Rattle.std.proofs.Common.{◌≡◌, ◌+◌, ◌/◌, ◌%◌, Option, OnOk, false, rules, ap, sym, ◌∙◌, subst, arith, ◌*◌}
 use Rattle.std.proofs.lemmas.Result.{on_err_weaker, on_ok_weaker}
-use Rattle.std.proofs.lemmas.Slice.Eq.{bytes_eq-Decides}
+use Rattle.std.specs.Str.{bytes_eq}
 use Rattle.zd_model.specs.Image.{Image, set_block}
 use Rattle.zd_disk.proofs.ToldLaws.{Some-same}
 use Rattle.zd_disk.specs.Told.{Both}
 use Rattle.zd_sets.specs.Equal.{HasBlock}
-use Rattle.zd_sets.proofs.CallLaws.{differ_apart, made_one}
+use Rattle.zd_sets.proofs.CallLaws.{differ_by, made_one}
 use Rattle.zd_sets.specs.Kept.{HasPartOfBlock}
 use Rattle.zd_sets.proofs.EqualLaws.{ok_anyway, wrote_has}
 use Rattle.zd_sets.proofs.StopLaws.{stops_after_read, stops_write}
@@ -75,9 +75,7 @@ pub returns-clause-counted : goal.returns-clause-counted
 returns-clause-counted g c =
     let read = c.in_ok-read_set_block.ensures in
     let block = c.args.block.now in
+    let other : bytes_eq block c.read_set_block.new.into ≡ false = search rules in
     ok_anyway c.write_block.result (λ low image e.
-    let there = c.as_slice.ensures ∙ read.value image e in
-    let other = differ_apart (set_block image c.args.first c.args.i) block (λ same.
-    absurd (true≢false (sym ((bytes_eq-Decides block c.as_slice.result.now).1 (sym same ∙ sym there)) ∙ sym c.eq.ensures ∙ c.if-eq.false))) in
-    let one = ap {B = ℕ} (λ (b : Bool). cond b 1 0) other in
+    let one = differ_by (set_block image c.args.first c.args.i) block (ap (bytes_eq block) (sym (read.value image e)) ∙ other) in
     omega (arith, made_one (g.D.ZonedDisk.calls c.read_set_block.new.disk) (g.D.ZonedDisk.calls c.write_block.new.disk) c.write_block.ensures.calls low, read.calls, one))
