@@ -9,7 +9,8 @@ use Rattle.zd_model.specs.Pieces.{pieces_of}
 use Rattle.zd_model.specs.History.{HistoryEntry, IsLegal, IsOrdered, mark_of_entry, mark_of_piece, marks_of_caller}
 use Rattle.zd_model.specs.Report.{output, status_of}
 use Rattle.zd_model.specs.Script.{Refuses}
-use Rattle.zd_model.specs.Volume.{WellFormed}
+use Rattle.zd_disk.specs.Told.{WhereTold}
+use Rattle.zd_model.specs.Volume.{WellFormed, chosen}
 use Rattle.zd_model.specs.declared.requests.Request.{Request}
 use Rattle.zd_model.specs.declared.requests.Ending.TheVariants as endings
 use Rattle.zd_model.specs.declared.texts.Outcome.{Outcome}
@@ -20,7 +21,10 @@ use Rattle.zd_script.specs.declared.fault.ScriptFault.{ScriptFault}
 use Rattle.zd_script.specs.declared.fault.ScriptFault.TheVariants as scripts
 use Rattle.zd_model.specs.declared.texts.NoVolume.{NoVolume}
 use Rattle.zd_model.specs.declared.texts.NoVolume.TheVariants as volumes
+use Rattle.zd_sets.specs.Choice.{chosen_of}
+use Rattle.zd_sets.specs.declared.choice.Chosen.{Chosen as Choice}
 use Rattle.zd_open.specs.Examined.{Explains}
+use Rattle.zd_open.specs.Opened.{open_calls}
 use Rattle.zd_open.specs.declared.examining.OpenFault.{OpenFault}
 use Rattle.zd_open.specs.declared.examining.OpenFault.TheVariants as opens
 use Rattle.zd_replay.specs.Reads.{IsScriptOfReads, IsOtherScript}
@@ -98,6 +102,12 @@ IsSettledStatus status = IsTrue (list_any (λ s. s == status) (0 ∷ 3 ∷ 6 ∷
 -- those that come only once the volume is opened
 abbrev pub IsOpenedStatus : ℕ → Type 0
 IsOpenedStatus status = IsTrue (list_any (λ s. s == status) (0 ∷ 6 ∷ []))
+
+-- the disk had the writing calls of one opening by its chosen set, and no others, while their count is
+-- below its end
+abbrev pub HasOpeningCalls : Option Image → ℕ → ℕ → Type 0
+HasOpeningCalls zones before now = now < 2 ^ 64 - 1 → WhereTold zones (λ image.
+    (c : Choice) × (chosen image ≡ Some (chosen_of c)) × (now ≡ before + open_calls c image))
 
 -- those of a script that can't be read
 abbrev pub IsRefusalStatus : ℕ → Type 0

@@ -9,7 +9,7 @@ ghost use Rattle.zd_sets.specs.Equal.{IsDurable};
 ghost use Rattle.zd_ports.specs.Taking.{IsFaultless, IsTaken};
 ghost use Rattle.zd_replay.specs.Base.{HasItsPointers, IsOpenVolume, served_by};
 ghost use Rattle.zd_replay.specs.Reads.{IsScriptOfReads};
-ghost use Rattle.zd_replay.specs.Replay.{IsCommand, IsReadPlan, script_outcome, open_outcome, IsHistory, IsRight, IsStatus, IsOpenedStatus, IsSettledStatus, IsSessionStatus, IsRefusalStatus, IsUntouched, Tells, Reports, WhereAllTold, AreCounted};
+ghost use Rattle.zd_replay.specs.Replay.{IsCommand, IsReadPlan, script_outcome, open_outcome, IsHistory, IsRight, IsStatus, IsOpenedStatus, IsSettledStatus, IsSessionStatus, IsRefusalStatus, IsUntouched, Tells, Reports, WhereAllTold, AreCounted, HasOpeningCalls};
 
 use crate::report::{tell_all, tell_alone, tell_end};
 use crate::run::run;
@@ -102,6 +102,8 @@ fn session<D: ZonedDisk, K: Sink>(alloc: Global, disk: &mut D, plan: &Plan, out:
     ensures kept { Both (D.zones disk.old) (D.zones disk.new) IsKept }
     ensures refused { result.0 ≡ 3 →
         IsFlushed (D.zones disk.old) (D.zones disk.new) (D.calls disk.old) (D.calls disk.new) }
+    ensures counted { IsOpenedStatus result.0 →
+        HasOpeningCalls (D.zones disk.old) (D.calls disk.old) (D.calls disk.new) }
     ensures calls { D.calls disk.old ≤ D.calls disk.new }
     ensures left { StopsLeaveOrKeep (D.zones disk.old) (D.calls disk.old) (D.left disk.old)
         (D.calls disk.new) (D.left disk.new) }
@@ -160,6 +162,10 @@ pub fn replay_alone<D: ZonedDisk, S: Source, K: Sink>(
     ensures same { IsUntouched result.0.0 → result.1 ≡ disk }
     ensures refused { result.0.0 ≡ 3 →
         IsFlushed (D.zones disk) (D.zones result.1) (D.calls disk) (D.calls result.1) }
+
+    // A run whose volume was opened makes the writing calls of opening, and no others.
+    ensures counted { IsOpenedStatus result.0.0 →
+        HasOpeningCalls (D.zones disk) (D.calls disk) (D.calls result.1) }
 
     // What a stop leaves, at each moment of the run.
     ensures left { StopsLeaveOrKeep (D.zones disk) (D.calls disk) (D.left disk)

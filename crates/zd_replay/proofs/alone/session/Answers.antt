@@ -121,3 +121,10 @@ pub returns-clause-durable : goal.returns-clause-durable
 returns-clause-durable g c status =
     durable_read (g.D.ZonedDisk.zones c.args.disk.now) (g.D.ZonedDisk.zones c.open.new.disk) (g.D.ZonedDisk.zones c.run_plan-history.new.disk) (g.D.ZonedDisk.calls c.args.disk.now) (g.D.ZonedDisk.calls c.open.new.disk) (g.D.ZonedDisk.calls c.run_plan-history.new.disk) (g.D.ZonedDisk.left c.args.disk.now) (g.D.ZonedDisk.left c.open.new.disk) (g.D.ZonedDisk.left c.run_plan-history.new.disk)
     c.run_plan-history.ensures.calls c.run_plan-history.ensures.left c.run_plan-history.ensures.zones c.in-Ok.ensures.durable
+
+pub returns-clause-counted : goal.returns-clause-counted
+returns-clause-counted g c status low image z =
+    let volume = c.in-Ok.volume in
+    let there = Both-first _ _ (IsOpened volume.geometry volume.chosen volume.blocks volume.pointers.items) image c.in-Ok.ensures.ok z in
+    let same = c.run_plan-history.ensures.calls in
+    (volume.chosen, there.2.well_formed.is_chosen, same ∙ c.in-Ok.ensures.counted (omega (arith, same)) image z)
