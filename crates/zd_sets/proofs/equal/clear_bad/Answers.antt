@@ -70,7 +70,8 @@ returns-clause-left g c =
 
 pub returns-clause-durable : goal.returns-clause-durable
 returns-clause-durable g c =
-    on_ok_weaker c.flush.result (λ last before. durable_new (g.D.ZonedDisk.zones c.write.new.self) (g.D.ZonedDisk.zones c.flush.new.self) (g.D.ZonedDisk.calls c.flush.new.self) (g.D.ZonedDisk.left c.flush.new.self) c.flush.ensures.zones last)
+    let see = seen_by g.D.ZonedDisk.told g.D.ZonedDisk.zones g.D.ZonedDisk.calls g.D.ZonedDisk.left in
+    on_ok_weaker c.flush.result (λ last before. durable_new (see c.write.new.self) (see c.flush.new.self) c.flush.ensures.zones last)
     c.flush.ensures.durable
 
 pub returns-in_err-write-clause-way : goal.returns-in_err-write-clause-way
