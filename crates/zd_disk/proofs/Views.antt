@@ -1,7 +1,8 @@
 -- What a disk tells at one moment of its life.
-use Rattle.std.proofs.Common.{◌≡◌, Option, Some, IsSome, ℕ, ◌^◌, ◌-◌, ◌<◌, ◌≤◌}
+use Rattle.std.proofs.Common.{Option, ℕ}
 use Rattle.zd_base.specs.Geometry.{Shape}
-use Rattle.zd_model.specs.Image.{Image, IsImage}
+use Rattle.zd_model.specs.Image.{Image}
+use Rattle.zd_disk.specs.declared.disk.ZonedDisk.{Ghosts}
 
 pub record View : Type 1 where
   pub told : Option Shape
@@ -9,13 +10,11 @@ pub record View : Type 1 where
   pub calls : ℕ
   pub left : ℕ → Image → Type 0
 
--- the laws of a zoned disk on it
-pub record IsView (v : View) : Type 0 where
-  pub agrees : (i : Image) → v.zones ≡ Some i → v.told ≡ Some i.geometry
-  pub shaped : (i : Image) → v.zones ≡ Some i → IsImage i
-  pub leaves : (k : ℕ) (i : Image) → k ≤ v.calls → v.left k i → IsImage i × (v.told ≡ Some i.geometry) × IsSome v.zones
-  pub reads : (i : Image) → v.calls < 2 ^ 64 - 1 → v.zones ≡ Some i → v.left v.calls i
-
--- the disk seen so
-abbrev pub seen_by : {D : Type 0} → (D → Option Shape) → (D → Option Image) → (D → ℕ) → (D → ℕ → Image → Type 0) → D → View
-seen_by {D} told zones calls left disk = record { told = told disk; zones = zones disk; calls = calls disk; left = left disk; }
+-- what this disk tells, by the words of its trait
+abbrev pub seen_by : {D : Type 0} → Ghosts D → D → View
+seen_by {D} words disk = record {
+  told = words.told disk;
+  zones = words.zones disk;
+  calls = words.calls disk;
+  left = words.left disk;
+}

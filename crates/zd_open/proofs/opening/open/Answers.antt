@@ -81,7 +81,7 @@ returns-in-Err-make_equal-clause-kept g c =
 
 pub returns-in-Ok-make_equal-clause-counted : goal.returns-in-Ok-make_equal-clause-counted
 returns-in-Ok-make_equal-clause-counted g c =
-    let see = seen_by g.D.ZonedDisk.told g.D.ZonedDisk.zones g.D.ZonedDisk.calls g.D.ZonedDisk.left in
+    let see = seen_by g.D.ZonedDisk in
     let d = g.met.D.ZonedDisk in
     let volume = c.in-Ok-examine.image in
     counted_open volume.geometry volume.chosen c.in-Ok-examine.ensures.usable.placed (see c.args.disk.now) (see c.examine.new.disk) (see c.make_equal.new.disk)
@@ -97,24 +97,24 @@ returns-in-Ok-make_equal-clause-counted g c =
 
 pub returns-in_default-clause-safe : goal.returns-in_default-clause-safe
 returns-in_default-clause-safe g c =
-    let see = seen_by g.D.ZonedDisk.told g.D.ZonedDisk.zones g.D.ZonedDisk.calls g.D.ZonedDisk.left in
+    let see = seen_by g.D.ZonedDisk in
     left_keeps (see c.args.disk.now) (see c.settle.new.disk) c.settle.ensures.calls
     (left_settled (see c.args.disk.now) (see c.settle.new.disk) (see c.settle.new.disk) refl (record { only = λ k i can. can; kept = λ k i can. can }) c.settle.ensures.left)
 
 pub returns-in-Err-clause-safe : goal.returns-in-Err-clause-safe
 returns-in-Err-clause-safe g c =
-    let see = seen_by g.D.ZonedDisk.told g.D.ZonedDisk.zones g.D.ZonedDisk.calls g.D.ZonedDisk.left in
+    let see = seen_by g.D.ZonedDisk in
     left_keeps (see c.args.disk.now) (see c.examine.new.disk) (omega (arith, c.settle.ensures.calls, c.examine.ensures.calls))
     (left_settled (see c.args.disk.now) (see c.settle.new.disk) (see c.examine.new.disk) c.examine.ensures.calls c.examine.ensures.left c.settle.ensures.left)
 
 pub returns-in-Err-clause-settled : goal.returns-in-Err-clause-settled
 returns-in-Err-clause-settled g c fine =
-    let see = seen_by g.D.ZonedDisk.told g.D.ZonedDisk.zones g.D.ZonedDisk.calls g.D.ZonedDisk.left in
+    let see = seen_by g.D.ZonedDisk in
     settled_keep (see c.args.disk.now) (see c.settle.new.disk) (see c.examine.new.disk) c.examine.ensures.calls c.in-Ok.ensures.counted c.examine.ensures.left c.settle.ensures.zones c.in-Ok.ensures.durable
 
 pub returns-in-Ok-make_equal-clause-left : goal.returns-in-Ok-make_equal-clause-left
 returns-in-Ok-make_equal-clause-left g c =
-    let see = seen_by g.D.ZonedDisk.told g.D.ZonedDisk.zones g.D.ZonedDisk.calls g.D.ZonedDisk.left in
+    let see = seen_by g.D.ZonedDisk in
     let d = g.met.D.ZonedDisk in
     let volume = c.in-Ok-examine.image in
     let shape : (i : Image) → g.D.ZonedDisk.zones c.settle.new.disk ≡ Some i → IsShape i.geometry
@@ -129,7 +129,7 @@ returns-in-Ok-make_equal-clause-left g c =
 
 pub returns-in-Ok-make_equal-clause-safe : goal.returns-in-Ok-make_equal-clause-safe
 returns-in-Ok-make_equal-clause-safe g c =
-    let see = seen_by g.D.ZonedDisk.told g.D.ZonedDisk.zones g.D.ZonedDisk.calls g.D.ZonedDisk.left in
+    let see = seen_by g.D.ZonedDisk in
     let d = g.met.D.ZonedDisk in
     let volume = c.in-Ok-examine.image in
     let shape : (i : Image) → g.D.ZonedDisk.zones c.settle.new.disk ≡ Some i → IsShape i.geometry
@@ -145,7 +145,7 @@ returns-in-Ok-make_equal-clause-safe g c =
 
 pub returns-in-Ok-make_equal-clause-settled : goal.returns-in-Ok-make_equal-clause-settled
 returns-in-Ok-make_equal-clause-settled g c fine =
-    let see = seen_by g.D.ZonedDisk.told g.D.ZonedDisk.zones g.D.ZonedDisk.calls g.D.ZonedDisk.left in
+    let see = seen_by g.D.ZonedDisk in
     let d = g.met.D.ZonedDisk in
     let volume = c.in-Ok-examine.image in
     let shape : (i : Image) → g.D.ZonedDisk.zones c.settle.new.disk ≡ Some i → IsShape i.geometry
@@ -159,7 +159,7 @@ returns-in-Ok-make_equal-clause-settled g c fine =
 
 pub returns-in-Err-make_equal-clause-left : goal.returns-in-Err-make_equal-clause-left
 returns-in-Err-make_equal-clause-left g c =
-    let see = seen_by g.D.ZonedDisk.told g.D.ZonedDisk.zones g.D.ZonedDisk.calls g.D.ZonedDisk.left in
+    let see = seen_by g.D.ZonedDisk in
     let d = g.met.D.ZonedDisk in
     let volume = c.in-Ok-examine.image in
     let shape : (i : Image) → g.D.ZonedDisk.zones c.settle.new.disk ≡ Some i → IsShape i.geometry
@@ -174,7 +174,7 @@ returns-in-Err-make_equal-clause-left g c =
 
 pub returns-in-Err-make_equal-clause-safe : goal.returns-in-Err-make_equal-clause-safe
 returns-in-Err-make_equal-clause-safe g c =
-    let see = seen_by g.D.ZonedDisk.told g.D.ZonedDisk.zones g.D.ZonedDisk.calls g.D.ZonedDisk.left in
+    let see = seen_by g.D.ZonedDisk in
     let d = g.met.D.ZonedDisk in
     let volume = c.in-Ok-examine.image in
     let shape : (i : Image) → g.D.ZonedDisk.zones c.settle.new.disk ≡ Some i → IsShape i.geometry

@@ -56,16 +56,10 @@ returns-then-not-has_reads_alone-clause-complete g c image bytes before z left h
     absurd (other_or_reads bytes c.in-Ok.plan right.script.0 others right.script.1)
 
 pub returns-then-not-is_command-clause-safe : goal.returns-then-not-is_command-clause-safe
-returns-then-not-is_command-clause-safe g c =
-    let see = seen_by g.D.ZonedDisk.told g.D.ZonedDisk.zones g.D.ZonedDisk.calls g.D.ZonedDisk.left in
-    untouched_keeps (see c.args.disk)
+returns-then-not-is_command-clause-safe g c = untouched_keeps (seen_by g.D.ZonedDisk c.args.disk)
 
 pub returns-in-Err-clause-safe : goal.returns-in-Err-clause-safe
-returns-in-Err-clause-safe g c =
-    let see = seen_by g.D.ZonedDisk.told g.D.ZonedDisk.zones g.D.ZonedDisk.calls g.D.ZonedDisk.left in
-    untouched_keeps (see c.args.disk)
+returns-in-Err-clause-safe g c = untouched_keeps (seen_by g.D.ZonedDisk c.args.disk)
 
 pub returns-then-not-has_reads_alone-clause-safe : goal.returns-then-not-has_reads_alone-clause-safe
-returns-then-not-has_reads_alone-clause-safe g c =
-    let see = seen_by g.D.ZonedDisk.told g.D.ZonedDisk.zones g.D.ZonedDisk.calls g.D.ZonedDisk.left in
-    untouched_keeps (see c.args.disk)
+returns-then-not-has_reads_alone-clause-safe g c = untouched_keeps (seen_by g.D.ZonedDisk c.args.disk)

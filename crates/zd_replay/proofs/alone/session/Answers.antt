@@ -106,24 +106,24 @@ returns-in-Err-clause-settled g c is =
 
 pub returns-clause-left : goal.returns-clause-left
 returns-clause-left g c =
-    let see = seen_by g.D.ZonedDisk.told g.D.ZonedDisk.zones g.D.ZonedDisk.calls g.D.ZonedDisk.left in
+    let see = seen_by g.D.ZonedDisk in
     left_read (see c.args.disk.now) (see c.open.new.disk) (see c.run_plan-history.new.disk)
     c.run_plan-history.ensures.calls c.run_plan-history.ensures.left c.open.ensures.left
 
 pub returns-clause-safe : goal.returns-clause-safe
 returns-clause-safe g c durable =
-    let see = seen_by g.D.ZonedDisk.told g.D.ZonedDisk.zones g.D.ZonedDisk.calls g.D.ZonedDisk.left in
+    let see = seen_by g.D.ZonedDisk in
     keep_read (see c.args.disk.now) (see c.open.new.disk) (see c.run_plan-history.new.disk)
     c.run_plan-history.ensures.calls c.run_plan-history.ensures.left (g.D.ZonedDisk.calls c.args.disk.now) (c.open.ensures.safe durable)
 
 pub returns-clause-settled : goal.returns-clause-settled
 returns-clause-settled g c status =
-    let see = seen_by g.D.ZonedDisk.told g.D.ZonedDisk.zones g.D.ZonedDisk.calls g.D.ZonedDisk.left in
+    let see = seen_by g.D.ZonedDisk in
     keep_read (see c.args.disk.now) (see c.open.new.disk) (see c.run_plan-history.new.disk)
     c.run_plan-history.ensures.calls c.run_plan-history.ensures.left (g.D.ZonedDisk.calls c.args.disk.now + 1) (c.open.ensures.settled (λ e. ok_no_fault (sym c.in-Ok.is ∙ e)))
 
 pub returns-clause-durable : goal.returns-clause-durable
 returns-clause-durable g c status =
-    let see = seen_by g.D.ZonedDisk.told g.D.ZonedDisk.zones g.D.ZonedDisk.calls g.D.ZonedDisk.left in
+    let see = seen_by g.D.ZonedDisk in
     durable_read (see c.open.new.disk) (see c.run_plan-history.new.disk)
     c.run_plan-history.ensures.zones c.run_plan-history.ensures.calls c.run_plan-history.ensures.left c.in-Ok.ensures.durable

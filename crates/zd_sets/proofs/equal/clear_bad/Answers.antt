@@ -34,7 +34,7 @@ returns-clause-ok g c =
 
 pub returns-in_err-write-clause-left : goal.returns-in_err-write-clause-left
 returns-in_err-write-clause-left g c =
-    let see = seen_by g.D.ZonedDisk.told g.D.ZonedDisk.zones g.D.ZonedDisk.calls g.D.ZonedDisk.left in
+    let see = seen_by g.D.ZonedDisk in
     let d = g.met.D.ZonedDisk in
     let some = c.zone_blocks-zone_blocks.ensures.shape.size.least in
     let shape = c.args.geometry.now in
@@ -49,7 +49,7 @@ returns-in_err-write-clause-left g c =
 
 pub returns-clause-left : goal.returns-clause-left
 returns-clause-left g c =
-    let see = seen_by g.D.ZonedDisk.told g.D.ZonedDisk.zones g.D.ZonedDisk.calls g.D.ZonedDisk.left in
+    let see = seen_by g.D.ZonedDisk in
     let d = g.met.D.ZonedDisk in
     let some = c.zone_blocks-zone_blocks.ensures.shape.size.least in
     let shape = c.args.geometry.now in
@@ -70,7 +70,7 @@ returns-clause-left g c =
 
 pub returns-clause-durable : goal.returns-clause-durable
 returns-clause-durable g c =
-    let see = seen_by g.D.ZonedDisk.told g.D.ZonedDisk.zones g.D.ZonedDisk.calls g.D.ZonedDisk.left in
+    let see = seen_by g.D.ZonedDisk in
     on_ok_weaker c.flush.result (λ last before. durable_new (see c.write.new.self) (see c.flush.new.self) c.flush.ensures.zones last)
     c.flush.ensures.durable
 

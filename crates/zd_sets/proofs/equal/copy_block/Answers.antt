@@ -30,7 +30,7 @@ returns-clause-ok g c =
 
 pub returns-clause-left : goal.returns-clause-left
 returns-clause-left g c =
-    let see = seen_by g.D.ZonedDisk.told g.D.ZonedDisk.zones g.D.ZonedDisk.calls g.D.ZonedDisk.left in
+    let see = seen_by g.D.ZonedDisk in
     let d = g.met.D.ZonedDisk in
     let read = c.in_ok-read_set_block.ensures in
     let size = c.zone_blocks-zone_blocks.ensures.shape.size.least in

@@ -71,7 +71,7 @@ put_super-requires-clause-now g c = λ middle m.
 
 pub returns-in_err-clear_bad-clause-left : goal.returns-in_err-clear_bad-clause-left
 returns-in_err-clear_bad-clause-left g c =
-    let see = seen_by g.D.ZonedDisk.told g.D.ZonedDisk.zones g.D.ZonedDisk.calls g.D.ZonedDisk.left in
+    let see = seen_by g.D.ZonedDisk in
     let d = g.met.D.ZonedDisk in
     let is = c.zone_blocks-zone_blocks.ensures.shape in
     let size = is.size.least in
@@ -84,7 +84,7 @@ returns-in_err-clear_bad-clause-left g c =
 
 pub returns-in_err-copy_blocks-clause-left : goal.returns-in_err-copy_blocks-clause-left
 returns-in_err-copy_blocks-clause-left g c =
-    let see = seen_by g.D.ZonedDisk.told g.D.ZonedDisk.zones g.D.ZonedDisk.calls g.D.ZonedDisk.left in
+    let see = seen_by g.D.ZonedDisk in
     let d = g.met.D.ZonedDisk in
     let is = c.zone_blocks-zone_blocks.ensures.shape in
     let size = is.size.least in
@@ -101,7 +101,7 @@ returns-in_err-copy_blocks-clause-left g c =
 
 pub returns-clause-left : goal.returns-clause-left
 returns-clause-left g c =
-    let see = seen_by g.D.ZonedDisk.told g.D.ZonedDisk.zones g.D.ZonedDisk.calls g.D.ZonedDisk.left in
+    let see = seen_by g.D.ZonedDisk in
     let d = g.met.D.ZonedDisk in
     let is = c.zone_blocks-zone_blocks.ensures.shape in
     let size = is.size.least in
@@ -169,7 +169,7 @@ returns-clause-kept g c =
 
 pub returns-clause-counted : goal.returns-clause-counted
 returns-clause-counted g c =
-    let see = seen_by g.D.ZonedDisk.told g.D.ZonedDisk.zones g.D.ZonedDisk.calls g.D.ZonedDisk.left in
+    let see = seen_by g.D.ZonedDisk in
     let d = g.met.D.ZonedDisk in
     let size = c.zone_blocks-zone_blocks.ensures.shape.size.least in
     let shape = c.args.geometry.now in
@@ -186,7 +186,7 @@ returns-clause-counted g c =
 
 pub returns-in_err-clear_bad-clause-safe : goal.returns-in_err-clear_bad-clause-safe
 returns-in_err-clear_bad-clause-safe g c low durable =
-    let see = seen_by g.D.ZonedDisk.told g.D.ZonedDisk.zones g.D.ZonedDisk.calls g.D.ZonedDisk.left in
+    let see = seen_by g.D.ZonedDisk in
     let d = g.met.D.ZonedDisk in
     let is = c.zone_blocks-zone_blocks.ensures.shape in
     let size = is.size.least in
@@ -202,7 +202,7 @@ returns-in_err-clear_bad-clause-safe g c low durable =
 
 pub returns-in_err-copy_blocks-clause-safe : goal.returns-in_err-copy_blocks-clause-safe
 returns-in_err-copy_blocks-clause-safe g c low durable =
-    let see = seen_by g.D.ZonedDisk.told g.D.ZonedDisk.zones g.D.ZonedDisk.calls g.D.ZonedDisk.left in
+    let see = seen_by g.D.ZonedDisk in
     let d = g.met.D.ZonedDisk in
     let is = c.zone_blocks-zone_blocks.ensures.shape in
     let size = is.size.least in
@@ -224,7 +224,7 @@ returns-in_err-copy_blocks-clause-safe g c low durable =
 
 pub returns-clause-safe : goal.returns-clause-safe
 returns-clause-safe g c low durable =
-    let see = seen_by g.D.ZonedDisk.told g.D.ZonedDisk.zones g.D.ZonedDisk.calls g.D.ZonedDisk.left in
+    let see = seen_by g.D.ZonedDisk in
     let d = g.met.D.ZonedDisk in
     let is = c.zone_blocks-zone_blocks.ensures.shape in
     let size = is.size.least in

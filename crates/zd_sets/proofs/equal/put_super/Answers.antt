@@ -39,13 +39,13 @@ returns-clause-ok g c =
 
 pub returns-clause-durable : goal.returns-clause-durable
 returns-clause-durable g c =
-    let see = seen_by g.D.ZonedDisk.told g.D.ZonedDisk.zones g.D.ZonedDisk.calls g.D.ZonedDisk.left in
+    let see = seen_by g.D.ZonedDisk in
     on_ok_weaker c.flush.result (durable_new (see c.write_super.new.disk) (see c.flush.new.self) c.flush.ensures.zones)
     c.flush.ensures.durable
 
 pub returns-in_err-write_super-clause-left : goal.returns-in_err-write_super-clause-left
 returns-in_err-write_super-clause-left g c =
-    let see = seen_by g.D.ZonedDisk.told g.D.ZonedDisk.zones g.D.ZonedDisk.calls g.D.ZonedDisk.left in
+    let see = seen_by g.D.ZonedDisk in
     let d = g.met.D.ZonedDisk in
     let some = c.zone_blocks-zone_blocks.ensures.shape.size.least in
     let shape = c.args.geometry.now in
@@ -62,7 +62,7 @@ returns-in_err-write_super-clause-left g c =
 
 pub returns-clause-left : goal.returns-clause-left
 returns-clause-left g c =
-    let see = seen_by g.D.ZonedDisk.told g.D.ZonedDisk.zones g.D.ZonedDisk.calls g.D.ZonedDisk.left in
+    let see = seen_by g.D.ZonedDisk in
     let d = g.met.D.ZonedDisk in
     let some = c.zone_blocks-zone_blocks.ensures.shape.size.least in
     let shape = c.args.geometry.now in
