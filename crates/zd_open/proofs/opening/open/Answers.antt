@@ -28,7 +28,7 @@ make_equal-requires-clause-blocks g c image z =
 pub returns-in-Err-clause-err : goal.returns-in-Err-clause-err
 returns-in-Err-clause-err g c image z =
     let d = g.met.D.ZonedDisk in
-    let settled = Both-first (g.D.ZonedDisk.zones c.args.disk.now) (g.D.ZonedDisk.zones c.settle.new.disk) Same image c.settle.ensures.zones z in
+    let settled = Both-first _ _ Same image c.settle.ensures.zones z in
     let told = Some-same _ _ (sym c.in-Ok.ensures.told ∙ d.agrees c.settle.new.disk settled.0 settled.1) in
     let shape = subst IsShape (told ∙ settled.2.geometry) c.in-Ok.ensures.shape in
     explains_same image settled.0 (d.shaped c.args.disk.now image z) shape settled.2 c.in-Err.fault (c.in-Err.ensures.err settled.0 settled.1)
@@ -37,7 +37,7 @@ pub returns-in-Ok-make_equal-clause-ok : goal.returns-in-Ok-make_equal-clause-ok
 returns-in-Ok-make_equal-clause-ok g c =
     let d = g.met.D.ZonedDisk in
     let volume = c.in-Ok-examine.image in
-    both_then (g.D.ZonedDisk.zones c.args.disk.now) (g.D.ZonedDisk.zones c.settle.new.disk) (g.D.ZonedDisk.zones c.make_equal.new.disk) Same
+    both_then _ _ _ Same
     (IsMadeEqual volume.geometry volume.chosen (used_blocks volume.geometry volume.chosen.head.layout))
     (IsOpened volume.geometry volume.chosen volume.blocks volume.pointers.items)
     (λ old middle new from via to same equal.
@@ -53,7 +53,7 @@ pub returns-in-Ok-make_equal-clause-kept : goal.returns-in-Ok-make_equal-clause-
 returns-in-Ok-make_equal-clause-kept g c =
     let d = g.met.D.ZonedDisk in
     let volume = c.in-Ok-examine.image in
-    both_then (g.D.ZonedDisk.zones c.args.disk.now) (g.D.ZonedDisk.zones c.settle.new.disk) (g.D.ZonedDisk.zones c.make_equal.new.disk) Same
+    both_then _ _ _ Same
     (KeepsVolume (chosen_of volume.chosen)) IsKept
     (λ old middle new from via to same keeps.
     let told = Some-same _ _ (sym c.in-Ok.ensures.told ∙ d.agrees c.settle.new.disk middle via) in
@@ -68,7 +68,7 @@ pub returns-in-Err-make_equal-clause-kept : goal.returns-in-Err-make_equal-claus
 returns-in-Err-make_equal-clause-kept g c =
     let d = g.met.D.ZonedDisk in
     let volume = c.in-Ok-examine.image in
-    both_then (g.D.ZonedDisk.zones c.args.disk.now) (g.D.ZonedDisk.zones c.settle.new.disk) (g.D.ZonedDisk.zones c.make_equal.new.disk) Same
+    both_then _ _ _ Same
     (KeepsVolume (chosen_of volume.chosen)) IsKept
     (λ old middle new from via to same keeps.
     let told = Some-same _ _ (sym c.in-Ok.ensures.told ∙ d.agrees c.settle.new.disk middle via) in

@@ -97,5 +97,5 @@ returns-clause-way g c =
 
 pub returns-clause-counted : goal.returns-clause-counted
 returns-clause-counted g c = ok_anyway c.flush.result (λ low.
-    made_two (g.D.ZonedDisk.calls c.args.disk.now) (g.D.ZonedDisk.calls c.write.new.self) (g.D.ZonedDisk.calls c.flush.new.self) c.write.ensures.calls c.flush.ensures.calls low
+    made_two _ _ _ c.write.ensures.calls c.flush.ensures.calls low
     ∙ ap (λ (good : Bool). g.D.ZonedDisk.calls c.args.disk.now + clear_calls good) (sym c.if-good.false))

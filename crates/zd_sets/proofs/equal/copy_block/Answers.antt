@@ -80,4 +80,4 @@ returns-clause-counted g c =
     let other : bytes_eq block c.read_set_block.new.into ≡ false = search rules in
     ok_anyway c.write_block.result (λ low image e.
     let one = differ_by (set_block image c.args.first c.args.i) block (ap (bytes_eq block) (sym (read.value image e)) ∙ other) in
-    omega (arith, made_one (g.D.ZonedDisk.calls c.read_set_block.new.disk) (g.D.ZonedDisk.calls c.write_block.new.disk) c.write_block.ensures.calls low, read.calls, one))
+    omega (arith, made_one _ _ c.write_block.ensures.calls low, read.calls, one))
