@@ -1,5 +1,5 @@
 -- What a stop may leave while the other set is made equal is the same volume.
-use Rattle.std.proofs.Common.{◌≡◌, Option, Some, ℕ, ◌^◌, ◌-◌, ◌<◌, ◌≤◌, List, sym, ◌∙◌, inl, inr, arith}
+use Rattle.std.proofs.Common.{◌≡◌, Some, ℕ, ◌^◌, ◌-◌, ◌<◌, ◌≤◌, List, sym, ◌∙◌, inl, inr, arith}
 use Rattle.std.proofs.lemmas.Bool.{cases_lt}
 use Rattle.zd_base.specs.Geometry.{IsShape, Shape}
 use Rattle.zd_base.specs.Layout.{used_blocks}

@@ -7,7 +7,7 @@ use Rattle.zd_disk.proofs.ToldLaws.{Both-new, Some-same}
 use Rattle.zd_disk.specs.Told.{Both}
 use Rattle.zd_sets.specs.Calls.{differing_from}
 use Rattle.zd_sets.specs.Choice.{chosen_of}
-use Rattle.zd_sets.specs.Equal.{HasBlocks, HasSuper, InSet, IsCleared, IsMadeEqual, OnlyAt, StopsLeave}
+use Rattle.zd_sets.specs.Equal.{HasBlocks, HasSuper, InSet, IsCleared, IsMadeEqual, OnlyAt}
 use Rattle.zd_sets.specs.Kept.{HasPartOfBlocks, HasPartOfSuper, IsPartCleared, KeepsVolume}
 use Rattle.zd_sets.proofs.CallLaws.{MadeTo, counted_equal}
 use Rattle.zd_sets.proofs.EqualLaws.{Both-then, made_equal, ready, still_ready, only_then, there_inside}
