@@ -8,4 +8,5 @@ pub mod SameSteps
 pub mod StepLaws
 pub mod WithinLaws
 pub mod ToldLaws
+pub mod Views
 pub mod ZoneChange

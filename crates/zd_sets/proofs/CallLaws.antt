@@ -12,6 +12,7 @@ use Rattle.zd_model.specs.Image.{Image, IsImage, Same, set_block}
 use Rattle.zd_model.specs.Volume.{good_super}
 use Rattle.zd_model.specs.declared.metadata.Super.{Super}
 use Rattle.zd_model.proofs.SameLaws.{same_block, same_map}
+use Rattle.zd_disk.proofs.Views.{View}
 use Rattle.zd_disk.specs.Told.{Both, WhereTold, next_count}
 use Rattle.zd_sets.specs.Blocks.{AreBlocks, blocks_of}
 use Rattle.zd_sets.specs.Calls.{Made, MadeOf, clear_calls, differ, differing, differing_from, equal_calls, passing}
@@ -60,16 +61,20 @@ made_one a b e low = omega (arith, e, low)
 pub made_two : (a b c : ℕ) → b ≡ next_count a → c ≡ next_count b → Made a c 2
 made_two a b c e f low = omega (arith, e, f, low)
 
+-- so many writing calls were made between two moments, counted by what the disk first reads as
+abbrev pub MadeTo : View → View → (Image → ℕ) → Type 0
+MadeTo v w number = MadeOf v.zones v.calls w.calls number
+
 -- one block more
-pub counted_more : (g : Shape) (first i : ℕ) (bytes : List ℕ) (o m : Option Image) (a b c : ℕ)
-    → 0 < g.zone_blocks → 1 ≤ i → first + i / g.zone_blocks < g.conv → b ≤ c
-    → ((image : Image) → o ≡ Some image → image.geometry ≡ g)
-    → Both o m (HasBlocks g first 1 i bytes)
-    → MadeOf o a b (differing_from bytes first i)
-    → MadeOf m b c (λ image. cond (differ (set_block image first i) (blocks_of bytes i 1)) 1 0)
-    → MadeOf o a c (differing_from bytes first (i + 1))
-counted_more g first i bytes o m a b c some front inside later shape copied before here low image e =
-    let there = Both-first o m (HasBlocks g first 1 i bytes) image copied e in
+pub counted_more : (g : Shape) (first i : ℕ) (bytes : List ℕ) (u v w : View)
+    → 0 < g.zone_blocks → 1 ≤ i → first + i / g.zone_blocks < g.conv → v.calls ≤ w.calls
+    → ((image : Image) → u.zones ≡ Some image → image.geometry ≡ g)
+    → Both u.zones v.zones (HasBlocks g first 1 i bytes)
+    → MadeTo u v (differing_from bytes first i)
+    → MadeTo v w (λ image. cond (differ (set_block image first i) (blocks_of bytes i 1)) 1 0)
+    → MadeTo u w (differing_from bytes first (i + 1))
+counted_more g first i bytes u v w some front inside later shape copied before here low image e =
+    let there = Both-first u.zones v.zones (HasBlocks g first 1 i bytes) image copied e in
     let same = set_still g first (InSet g first 1 i) image there.0 some (shape image e) there.2.only i inside
     (outside g first 1 i i some (inr (omega arith))) in
     let one = ap {B = ℕ} (λ (block : List ℕ). cond (differ block (blocks_of bytes i 1)) 1 0) same in
@@ -77,9 +82,10 @@ counted_more g first i bytes o m a b c some front inside later shape copied befo
     omega (arith, before (omega (arith, low, later)) image e, here low there.0 there.1, one, more)
 
 -- and a flush
-pub counted_flush : (bytes : List ℕ) (first end : ℕ) (o : Option Image) (a b c : ℕ) → c ≡ next_count b
-    → MadeOf o a b (differing_from bytes first end) → MadeOf o a c (λ image. differing_from bytes first end image + 1)
-counted_flush bytes first end o a b c one before low image e =
+pub counted_flush : (bytes : List ℕ) (first end : ℕ) (u v w : View) → w.calls ≡ next_count v.calls
+    → MadeTo u v (differing_from bytes first end)
+    → MadeTo u w (λ image. differing_from bytes first end image + 1)
+counted_flush bytes first end u v w one before low image e =
     omega (arith, before (omega (arith, low, one)) image e, one, low)
 
 module _ (g : Shape) (choice : Choice) (placed : IsPlaced g choice) (some : 0 < g.zone_blocks) where
@@ -95,16 +101,16 @@ module _ (g : Shape) (choice : Choice) (placed : IsPlaced g choice) (some : 0 < 
       (blocks.each k high))
 
   -- the three steps, one after another
-  pub counted_equal : (bytes : List ℕ) (o m : Option Image) (a b c d : ℕ) → b ≤ c → c ≤ d
-      → ((image : Image) → o ≡ Some image → image.geometry ≡ g)
-      → WhereTold o (λ image. choice.other_good ≡ is_some (good_super image choice.other))
-      → WhereTold o (λ image. AreBlocks image choice.zone (used_blocks g choice.head.layout) bytes)
-      → Both o m (IsCleared g choice.other choice.other_good)
-      → Made a b (clear_calls choice.other_good)
-      → MadeOf m b c (λ image. differing_from bytes choice.other (used_blocks g choice.head.layout) image + 1)
-      → Made c d 2 → MadeOf o a d (equal_calls choice (used_blocks g choice.head.layout))
-  counted_equal bytes o m a b c d later last shape good blocks cleared one two three low image e =
-      let there = Both-first o m (IsCleared g choice.other choice.other_good) image cleared e in
+  pub counted_equal : (bytes : List ℕ) (s t u v : View) → t.calls ≤ u.calls → u.calls ≤ v.calls
+      → ((image : Image) → s.zones ≡ Some image → image.geometry ≡ g)
+      → WhereTold s.zones (λ image. choice.other_good ≡ is_some (good_super image choice.other))
+      → WhereTold s.zones (λ image. AreBlocks image choice.zone (used_blocks g choice.head.layout) bytes)
+      → Both s.zones t.zones (IsCleared g choice.other choice.other_good)
+      → Made s.calls t.calls (clear_calls choice.other_good)
+      → MadeTo t u (λ image. differing_from bytes choice.other (used_blocks g choice.head.layout) image + 1)
+      → Made u.calls v.calls 2 → MadeTo s v (equal_calls choice (used_blocks g choice.head.layout))
+  counted_equal bytes s t u v later last shape good blocks cleared one two three low image e =
+      let there = Both-first s.zones t.zones (IsCleared g choice.other choice.other_good) image cleared e in
       let same = differing_cleared bytes image there.0 (shape image e) (blocks image e) there.2 in
       let clear = ap clear_calls (good image e) in
       omega (arith, one (omega (arith, low, later, last)), two (omega (arith, low, last)) there.0 there.1, three low, same, clear)

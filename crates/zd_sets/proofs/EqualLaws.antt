@@ -18,6 +18,7 @@ use Rattle.zd_model.proofs.EventLaws.{SameZone-refl, SameZone-trans}
 use Rattle.zd_model.proofs.SuperSpelling.{spells}
 use Rattle.zd_model.proofs.SameLaws.{same_block, same_run}
 use Rattle.zd_disk.proofs.SameSteps.{Same-back}
+use Rattle.zd_disk.proofs.Views.{View}
 use Rattle.zd_disk.proofs.ToldLaws.{Both-new, IfSome-at}
 use Rattle.zd_disk.specs.Steps.{Wrote, count_of, piece}
 use Rattle.zd_disk.specs.Told.{Both}
@@ -353,8 +354,8 @@ module _ (g : Shape) (choice : Choice) (bytes : List ℕ) (placed : IsPlaced g c
       }
 
 -- what a flush makes last is what the disk then reads as
-pub durable_new : (o n : Option Image) (calls : ℕ) (left : ℕ → Image → Type 0) → Both o n Same
-    → (calls < 2 ^ 64 - 1 → IfSome o (λ i. (c : Image) → left calls c → Same i c)) → IsDurable n calls left
-durable_new o n calls left both last low image e other can =
-    let from = Both-new o n Same image both e in
-    Same-back from.0 image other from.2 (IfSome-at o from.0 (λ i. (c : Image) → left calls c → Same i c) from.1 (last low) other can)
+pub durable_new : (v w : View) → Both v.zones w.zones Same
+    → (w.calls < 2 ^ 64 - 1 → IfSome v.zones (λ i. (c : Image) → w.left w.calls c → Same i c)) → IsDurable w.zones w.calls w.left
+durable_new v w both last low image e other can =
+    let from = Both-new v.zones w.zones Same image both e in
+    Same-back from.0 image other from.2 (IfSome-at v.zones from.0 (λ i. (c : Image) → w.left w.calls c → Same i c) from.1 (last low) other can)

@@ -1,43 +1,44 @@
 -- What a stop may leave while the other set is made equal is the same volume.
-use Rattle.std.proofs.Common.{◌≡◌, Option, Some, ℕ, ◌^◌, ◌-◌, ◌<◌, ◌≤◌, List, sym, ◌∙◌, inl, inr, arith}
+use Rattle.std.proofs.Common.{◌≡◌, Some, ℕ, ◌^◌, ◌-◌, ◌<◌, ◌≤◌, List, sym, ◌∙◌, inl, inr, arith}
 use Rattle.std.proofs.lemmas.Bool.{cases_lt}
 use Rattle.zd_base.specs.Geometry.{IsShape, Shape}
 use Rattle.zd_base.specs.Layout.{used_blocks}
 use Rattle.zd_model.specs.Image.{Image, IsImage}
 use Rattle.zd_disk.proofs.ToldLaws.{Some-same}
+use Rattle.zd_disk.proofs.Views.{View}
 use Rattle.zd_disk.specs.Told.{Both, WhereTold}
 use Rattle.zd_sets.specs.Blocks.{AreBlocks}
 use Rattle.zd_sets.specs.Choice.{IsChoice, IsPlaced, chosen_of}
-use Rattle.zd_sets.specs.Equal.{HasBlocks, InSet, IsDurable, OnlyAt, StopsLeave}
+use Rattle.zd_sets.specs.Equal.{HasBlocks, InSet, IsDurable, OnlyAt}
 use Rattle.zd_sets.specs.Kept.{HasPartOfBlocks, HasPartOfSuper, IsPartCleared, KeepsVolume}
 use Rattle.zd_sets.specs.declared.choice.Chosen.{Chosen as Choice}
 use Rattle.zd_sets.proofs.EqualLaws.{only_more}
-use Rattle.zd_sets.proofs.StopLaws.{Both-first, IsWay}
+use Rattle.zd_sets.proofs.StopLaws.{Both-first, IsWay, StopsTo}
 use Rattle.zd_sets.proofs.WayLaws.{way_cleared, way_copied, way_keeps, way_put}
 
--- from moment a to moment c a stop may leave what became in this way of what the disk reads as
-abbrev pub StopsFrom : (Image → Image → Type 0) → Option Image → ℕ → ℕ → (ℕ → Image → Type 0) → Type 0
-StopsFrom R zones a c left = WhereTold zones (λ old. (k : ℕ) (i : Image) → a ≤ k → k ≤ c → left k i → R old i)
+-- from one moment to another a stop may leave what became in this way of what the disk first reads as
+abbrev pub StopsFrom : (Image → Image → Type 0) → View → View → Type 0
+StopsFrom R u w = WhereTold u.zones (λ old. (k : ℕ) (i : Image) → u.calls ≤ k → k ≤ w.calls → w.left k i → R old i)
 
-module _ (R : Image → Image → Type 0) (g : Shape) (t : Option Shape) (o : Option Image) (a c : ℕ) (p r : ℕ → Image → Type 0)
-    (way : IsWay g R) (told : t ≡ Some g) (agrees : (i : Image) → o ≡ Some i → t ≡ Some i.geometry)
-    (shaped : (i : Image) → o ≡ Some i → IsImage i) (durable : IsDurable o a p) (leaves : StopsLeave R o a p c r)
-    (order : a ≤ c) (low : c < 2 ^ 64 - 1) where
+module _ (R : Image → Image → Type 0) (g : Shape) (v w : View) (way : IsWay g R) (told : v.told ≡ Some g)
+    (agrees : (i : Image) → v.zones ≡ Some i → v.told ≡ Some i.geometry) (shaped : (i : Image) → v.zones ≡ Some i → IsImage i)
+    (durable : IsDurable v.zones v.calls v.left) (leaves : StopsTo R v w) (order : v.calls ≤ w.calls) (low : w.calls < 2 ^ 64 - 1) where
   -- what it leaves came of what it could leave first, which was what the disk reads as
-  pub from_durable : StopsFrom R o a c r
+  pub from_durable : StopsFrom R v w
   from_durable old e k i above below can =
       let from = (leaves low old e).each k i above below can in
       way.then old from.0 i
-      (way.same old from.0 (shaped old e) (Some-same _ _ (sym (agrees old e) ∙ told)) (durable (omega arith) old e from.0 from.1)) from.2
+      (way.same old from.0 (shaped old e) (Some-same _ _ (sym (agrees old e) ∙ told))
+      (durable (omega (arith, order, low)) old e from.0 from.1)) from.2
 
   -- and the steps before led to that
-  pub from_then : (P M : Image → Image → Type 0) (first : Option Image) (from : ℕ) → Both first o M
-      → ((old middle i : Image) → first ≡ Some old → M old middle → (k : ℕ) → k ≤ c → r k i → R middle i → P old i)
-      → StopsFrom P first from a p → StopsFrom P first from c r
-  from_then P M first from both join before old e k i above below can =
-      let there = Both-first first o M old both e in
-      elim (cases_lt k a) [
-        | inl early ↦ before old e k i above (omega arith) ((leaves low there.0 there.1).earlier k i early can)
+  pub from_then : (P M : Image → Image → Type 0) (u : View) → Both u.zones v.zones M
+      → ((old middle i : Image) → u.zones ≡ Some old → M old middle → (k : ℕ) → k ≤ w.calls → w.left k i → R middle i → P old i)
+      → StopsFrom P u v → StopsFrom P u w
+  from_then P M u both join before old e k i above below can =
+      let there = Both-first u.zones v.zones M old both e in
+      elim (cases_lt k v.calls) [
+        | inl early ↦ before old e k i above (omega (arith, early)) ((leaves low there.0 there.1).earlier k i early can)
         | inr late ↦ join old there.0 i e there.2 k below can (from_durable there.0 there.1 k i late below can)
       ]
 

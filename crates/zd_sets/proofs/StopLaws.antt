@@ -5,6 +5,7 @@ use Rattle.zd_base.specs.Geometry.{Shape}
 use Rattle.zd_model.specs.Image.{Image, IsImage, Same, block_at}
 use Rattle.zd_model.proofs.SameLaws.{same_run}
 use Rattle.zd_disk.proofs.ToldLaws.{IfSome-at, Some-same}
+use Rattle.zd_disk.proofs.Views.{View}
 use Rattle.zd_disk.specs.Growth.{Grows, Keeps}
 use Rattle.zd_disk.specs.Steps.{WriteLeaves, WriteStep, count_of}
 use Rattle.zd_disk.specs.Told.{Both, next_count}
@@ -38,9 +39,12 @@ pub record IsWay (g : Shape) (R : Image → Image → Type 0) : Type 0 where
   pub then : (a b c : Image) → R a b → R b c → R a c
 
 -- what a stop may leave is an image of the told geometry
-abbrev pub AreLeft : Option Shape → Option Image → ℕ → (ℕ → Image → Type 0) → Type 0
-AreLeft told zones calls left =
-    (k : ℕ) (i : Image) → k ≤ calls → left k i → IsImage i × (told ≡ Some i.geometry) × IsSome zones
+abbrev pub AreLeft : View → Type 0
+AreLeft v = (k : ℕ) (i : Image) → k ≤ v.calls → v.left k i → IsImage i × (v.told ≡ Some i.geometry) × IsSome v.zones
+
+-- what stops leave of a disk from one moment on, up to another
+abbrev pub StopsTo : (Image → Image → Type 0) → View → View → Type 0
+StopsTo R v w = StopsLeave R v.zones v.calls v.left w.calls w.left
 
 leaves_grown : (R : Image → Image → Type 0) (from until : ℕ) (past now : ℕ → Image → Type 0) (begun ended : Image → Image → Type 0)
     → until ≡ from + 1 → Grows from past now begun ended
@@ -83,64 +87,66 @@ Both-first (Some k) None P i h e = absurd h
 Both-first (Some k) (Some j) P i h e = (j, refl, subst (λ (m : Image). P m j) (Some-same k i e) h)
 
 -- one call after another
-pub stops_then : (R : Image → Image → Type 0) → ((a b c : Image) → R a b → R b c → R a c) → (P : Image → Image → Type 0)
-    (o m : Option Image) (a b c : ℕ) (p q r : ℕ → Image → Type 0)
-    → a ≤ b → b ≤ c → Both o m P → StopsLeave R o a p b q → StopsLeave R m b q c r → StopsLeave R o a p c r
-stops_then R join P o m a b c p q r first second both h k low i e =
-    let there = Both-first o m P i both e in
-    leaves_then R join a b c p q r first (h (omega arith) i e) (k low there.0 there.1)
+pub stops_then : (R : Image → Image → Type 0) → ((a b c : Image) → R a b → R b c → R a c) → (P : Image → Image → Type 0) (u v w : View)
+    → u.calls ≤ v.calls → v.calls ≤ w.calls → Both u.zones v.zones P → StopsTo R u v → StopsTo R v w → StopsTo R u w
+stops_then R join P u v w first second both h k low i e =
+    let there = Both-first u.zones v.zones P i both e in
+    leaves_then R join u.calls v.calls w.calls u.left v.left w.left first (h (omega (arith, low, second)) i e) (k low there.0 there.1)
 
 -- the same, in wider words
-pub stops_more : (P Q : Image → Image → Type 0) (g : Shape) (t : Option Shape) (o : Option Image) (a c : ℕ) (p r : ℕ → Image → Type 0)
-    → t ≡ Some g → AreLeft t o a p → ((d i : Image) → d.geometry ≡ g → P d i → Q d i)
-    → StopsLeave P o a p c r → StopsLeave Q o a p c r
-stops_more P Q g t o a c p r told are f h low i e =
+pub stops_more : (P Q : Image → Image → Type 0) (g : Shape) (v w : View)
+    → v.told ≡ Some g → AreLeft v → ((d i : Image) → d.geometry ≡ g → P d i → Q d i) → StopsTo P v w → StopsTo Q v w
+stops_more P Q g v w told are f h low i e =
     let leaves = h low i e in
     record {
       earlier = leaves.earlier;
       each = λ k j above below can. let one = leaves.each k j above below can in
-          (one.0, one.1, f one.0 j (Some-same _ _ (sym (are a one.0 (omega arith) one.1).1 ∙ told)) one.2);
+          (one.0, one.1, f one.0 j (Some-same _ _ (sym (are v.calls one.0 (omega arith) one.1).1 ∙ told)) one.2);
     }
 
 -- a writing call behind reads
-pub stops_after_read : (R : Image → Image → Type 0) (o m : Option Image) (a b c : ℕ) (p q r : ℕ → Image → Type 0) → m ≡ o → b ≡ a
-    → Keeps p q → StopsLeave R m b q c r → StopsLeave R o a p c r
-stops_after_read R o m a b c p q r zones one keeps h low i e =
+pub stops_after_read : (R : Image → Image → Type 0) (u v w : View) → v.zones ≡ u.zones → v.calls ≡ u.calls
+    → Keeps u.left v.left → StopsTo R v w → StopsTo R u w
+stops_after_read R u v w zones one keeps h low i e =
     let leaves = h low i (zones ∙ e) in
     record {
-      earlier = λ k j under can. keeps.only k j (leaves.earlier k j (omega arith) can);
-      each = λ k j above below can. let here = leaves.each k j (omega arith) below can in
-          (here.0, subst (λ (n : ℕ). p n here.0) one (keeps.only b here.0 here.1), here.2);
+      earlier = λ k j under can. keeps.only k j (leaves.earlier k j (omega (arith, under, one)) can);
+      each = λ k j above below can. let here = leaves.each k j (omega (arith, above, one)) below can in
+          (here.0, subst (λ (n : ℕ). u.left n here.0) one (keeps.only v.calls here.0 here.1), here.2);
     }
 
-module _ (R : Image → Image → Type 0) (g : Shape) (t : Option Shape) (o : Option Image) (a c : ℕ) (p r : ℕ → Image → Type 0)
-    (told : t ≡ Some g) (are : AreLeft t o a p) (next : c ≡ next_count a) where
+module _ (R : Image → Image → Type 0) (g : Shape) (v w : View) (told : v.told ≡ Some g) (are : AreLeft v) (next : w.calls ≡ next_count v.calls) where
   -- a flush, done or cut short
   pub stops_flush : ((d i : Image) → IsImage d → d.geometry ≡ g → Same d i → R d i)
-      → (c < 2 ^ 64 - 1 → IfSome o (λ i. Grows a p r Same Same)) → StopsLeave R o a p c r
+      → (w.calls < 2 ^ 64 - 1 → IfSome v.zones (λ i. Grows v.calls v.left w.left Same Same)) → StopsTo R v w
   stops_flush by grows low image e =
-      let some : c ≡ a + 1 = omega (arith, next) in
-      let each : (d i : Image) → p a d → Same d i → R d i = λ d i can same. (
-      let here = are a d (omega arith) can in
+      let some : w.calls ≡ v.calls + 1 = omega (arith, next, low) in
+      let each : (d i : Image) → v.left v.calls d → Same d i → R d i = λ d i can same. (
+      let here = are v.calls d (omega arith) can in
       by d i here.0 (Some-same _ _ (sym here.1 ∙ told)) same) in
-      leaves_grown R a c p r Same Same some (IfSome-at o image (λ _. Grows a p r Same Same) e (grows low))
+      leaves_grown R v.calls w.calls v.left w.left Same Same some
+      (IfSome-at v.zones image (λ _. Grows v.calls v.left w.left Same Same) e (grows low))
       (λ d i can now same. each d i can same) (λ d i can now same. each d i can same)
 
   -- a write of at most a block in a conventional zone, done or cut short
-  pub stops_write : (zone x : ℕ) (bytes : List ℕ) (u : Option Shape) (m : Option Image) → zone < g.conv → AreLeft u m c r
-      → (a < 2 ^ 64 - 1 → (old d i : Image) → o ≡ Some old → p a d → IsImage d → d.geometry ≡ g → IsImage i
+  pub stops_write : (zone x : ℕ) (bytes : List ℕ) → zone < g.conv → AreLeft w
+      → (v.calls < 2 ^ 64 - 1 → (old d i : Image) → v.zones ≡ Some old → v.left v.calls d → IsImage d → d.geometry ≡ g → IsImage i
       → IsMixed zone (8 * x) bytes d i → R d i)
-      → (c < 2 ^ 64 - 1 → Both o m (λ i j. Grows a p r (WriteStep i zone (8 * x) bytes) (WriteLeaves i j zone (8 * x) bytes)))
-      → StopsLeave R o a p c r
-  stops_write zone x bytes u m inside then by grows low image e =
-      let some : c ≡ a + 1 = omega (arith, next) in
-      let both = Both-first o m _ image (grows low) e in
-      let shape : (d : Image) → p a d → d.geometry ≡ g = λ d can. Some-same _ _ (sym (are a d (omega arith) can).1 ∙ told) in
-      let conv : (d : Image) → p a d → zone < d.geometry.conv = λ d can. (
+      → (w.calls < 2 ^ 64 - 1 → Both v.zones w.zones (λ i j.
+      Grows v.calls v.left w.left (WriteStep i zone (8 * x) bytes) (WriteLeaves i j zone (8 * x) bytes)))
+      → StopsTo R v w
+  stops_write zone x bytes inside then by grows low image e =
+      let some : w.calls ≡ v.calls + 1 = omega (arith, next, low) in
+      let both = Both-first v.zones w.zones _ image (grows low) e in
+      let shape : (d : Image) → v.left v.calls d → d.geometry ≡ g
+      = λ d can. Some-same _ _ (sym (are v.calls d (omega arith) can).1 ∙ told) in
+      let conv : (d : Image) → v.left v.calls d → zone < d.geometry.conv = λ d can. (
       let same = ap (λ (s : Shape). s.conv) (shape d can) in
-      omega (arith, same)) in
-      leaves_grown R a c p r (WriteStep image zone (8 * x) bytes) (WriteLeaves image both.0 zone (8 * x) bytes) some both.2
-      (λ d i can now step. by (omega arith) image d i e can (are a d (omega arith) can).0 (shape d can) (then a i (omega arith) now).0
+      omega (arith, same, inside)) in
+      leaves_grown R v.calls w.calls v.left w.left (WriteStep image zone (8 * x) bytes) (WriteLeaves image both.0 zone (8 * x) bytes) some both.2
+      (λ d i can now step. by (omega (arith, low, some)) image d i e can (are v.calls d (omega arith) can).0 (shape d can)
+      (then v.calls i (omega (arith, some)) now).0
       (step_mixed image d i zone (8 * x) bytes (conv d can) step))
-      (λ d i can now step. by (omega arith) image d i e can (are a d (omega arith) can).0 (shape d can) (then (a + 1) i (omega arith) now).0
+      (λ d i can now step. by (omega (arith, low, some)) image d i e can (are v.calls d (omega arith) can).0 (shape d can)
+      (then (v.calls + 1) i (omega (arith, some)) now).0
       (left_mixed image both.0 d i zone (8 * x) bytes (conv d can) step))

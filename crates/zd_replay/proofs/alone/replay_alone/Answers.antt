@@ -3,6 +3,7 @@ use Rattle.std.specs.Prelude.{string_bytes, Err}
 use Rattle.std.proofs.lemmas.Bool.{false≢true}
 use Rattle.zd_model.specs.declared.texts.Outcome.TheVariants as outcomes
 use Rattle.zd_model.specs.declared.requests.Request.{Request}
+use Rattle.zd_disk.proofs.Views.{seen_by}
 use Rattle.zd_replay.specs.Reads.{IsScriptOfReads, IsOtherScript}
 use Rattle.zd_replay.specs.Replay.{IsCommand, IsSessionStatus, IsRefusalStatus, script_outcome}
 use Rattle.zd_replay.proofs.ReportLaws.{reports_alone, reports_end, ends_unread, unread, unbuilt, no_usage, not_four, of_line}
@@ -55,10 +56,10 @@ returns-then-not-has_reads_alone-clause-complete g c image bytes before z left h
     absurd (other_or_reads bytes c.in-Ok.plan right.script.0 others right.script.1)
 
 pub returns-then-not-is_command-clause-safe : goal.returns-then-not-is_command-clause-safe
-returns-then-not-is_command-clause-safe g c = untouched_keeps (g.D.ZonedDisk.zones c.args.disk) (g.D.ZonedDisk.calls c.args.disk) (g.D.ZonedDisk.left c.args.disk)
+returns-then-not-is_command-clause-safe g c = untouched_keeps (seen_by g.D.ZonedDisk c.args.disk)
 
 pub returns-in-Err-clause-safe : goal.returns-in-Err-clause-safe
-returns-in-Err-clause-safe g c = untouched_keeps (g.D.ZonedDisk.zones c.args.disk) (g.D.ZonedDisk.calls c.args.disk) (g.D.ZonedDisk.left c.args.disk)
+returns-in-Err-clause-safe g c = untouched_keeps (seen_by g.D.ZonedDisk c.args.disk)
 
 pub returns-then-not-has_reads_alone-clause-safe : goal.returns-then-not-has_reads_alone-clause-safe
-returns-then-not-has_reads_alone-clause-safe g c = untouched_keeps (g.D.ZonedDisk.zones c.args.disk) (g.D.ZonedDisk.calls c.args.disk) (g.D.ZonedDisk.left c.args.disk)
+returns-then-not-has_reads_alone-clause-safe g c = untouched_keeps (seen_by g.D.ZonedDisk c.args.disk)

@@ -4,12 +4,14 @@ use Rattle.zd_base.specs.Geometry.{Shape}
 use Rattle.zd_model.specs.declared.requests.Ending.TheVariants as endings
 use Rattle.zd_model.specs.declared.texts.Outcome.{Outcome}
 use Rattle.zd_model.specs.declared.texts.Outcome.TheVariants as outcomes
+use Rattle.zd_disk.proofs.Views.{seen_by}
+use Rattle.zd_open.proofs.LeftLaws.{durable_read}
 use Rattle.zd_open.specs.Opened.{IsOpened}
 use Rattle.zd_sets.proofs.StopLaws.{Both-first}
 use Rattle.zd_replay.specs.Base.{base_of, served_by}
 use Rattle.zd_replay.specs.Replay.{Ends, HasStatus, IsHistory, no_memory, IsSettledStatus}
 use Rattle.zd_replay.proofs.BaseLaws.{base_is}
-use Rattle.zd_replay.proofs.LeftLaws.{durable_read, keep_read, left_read}
+use Rattle.zd_replay.proofs.LeftLaws.{keep_read, left_read}
 use Rattle.zd_replay.proofs.ReportLaws.{no_refusal, ok_no_fault, reports, reports_end, ends_unopened, unopened, unopened_status, ends_run, history_of, ran_status}
 use Rattle.zd_replay.proofs.RunLaws.{counted_later}
 use Rattle.zd_replay.proofs.alone.session.Goals as goal
@@ -104,23 +106,27 @@ returns-in-Err-clause-settled g c is =
 
 pub returns-clause-left : goal.returns-clause-left
 returns-clause-left g c =
-    left_read (g.D.ZonedDisk.zones c.args.disk.now) (g.D.ZonedDisk.zones c.open.new.disk) (g.D.ZonedDisk.zones c.run_plan-history.new.disk) (g.D.ZonedDisk.calls c.args.disk.now) (g.D.ZonedDisk.calls c.open.new.disk) (g.D.ZonedDisk.calls c.run_plan-history.new.disk) (g.D.ZonedDisk.left c.args.disk.now) (g.D.ZonedDisk.left c.open.new.disk) (g.D.ZonedDisk.left c.run_plan-history.new.disk)
+    let see = seen_by g.D.ZonedDisk in
+    left_read (see c.args.disk.now) (see c.open.new.disk) (see c.run_plan-history.new.disk)
     c.run_plan-history.ensures.calls c.run_plan-history.ensures.left c.open.ensures.left
 
 pub returns-clause-safe : goal.returns-clause-safe
 returns-clause-safe g c durable =
-    keep_read (g.D.ZonedDisk.zones c.args.disk.now) (g.D.ZonedDisk.zones c.open.new.disk) (g.D.ZonedDisk.zones c.run_plan-history.new.disk) (g.D.ZonedDisk.calls c.args.disk.now) (g.D.ZonedDisk.calls c.open.new.disk) (g.D.ZonedDisk.calls c.run_plan-history.new.disk) (g.D.ZonedDisk.left c.args.disk.now) (g.D.ZonedDisk.left c.open.new.disk) (g.D.ZonedDisk.left c.run_plan-history.new.disk)
+    let see = seen_by g.D.ZonedDisk in
+    keep_read (see c.args.disk.now) (see c.open.new.disk) (see c.run_plan-history.new.disk)
     c.run_plan-history.ensures.calls c.run_plan-history.ensures.left (g.D.ZonedDisk.calls c.args.disk.now) (c.open.ensures.safe durable)
 
 pub returns-clause-settled : goal.returns-clause-settled
 returns-clause-settled g c status =
-    keep_read (g.D.ZonedDisk.zones c.args.disk.now) (g.D.ZonedDisk.zones c.open.new.disk) (g.D.ZonedDisk.zones c.run_plan-history.new.disk) (g.D.ZonedDisk.calls c.args.disk.now) (g.D.ZonedDisk.calls c.open.new.disk) (g.D.ZonedDisk.calls c.run_plan-history.new.disk) (g.D.ZonedDisk.left c.args.disk.now) (g.D.ZonedDisk.left c.open.new.disk) (g.D.ZonedDisk.left c.run_plan-history.new.disk)
+    let see = seen_by g.D.ZonedDisk in
+    keep_read (see c.args.disk.now) (see c.open.new.disk) (see c.run_plan-history.new.disk)
     c.run_plan-history.ensures.calls c.run_plan-history.ensures.left (g.D.ZonedDisk.calls c.args.disk.now + 1) (c.open.ensures.settled (λ e. ok_no_fault (sym c.in-Ok.is ∙ e)))
 
 pub returns-clause-durable : goal.returns-clause-durable
 returns-clause-durable g c status =
-    durable_read (g.D.ZonedDisk.zones c.args.disk.now) (g.D.ZonedDisk.zones c.open.new.disk) (g.D.ZonedDisk.zones c.run_plan-history.new.disk) (g.D.ZonedDisk.calls c.args.disk.now) (g.D.ZonedDisk.calls c.open.new.disk) (g.D.ZonedDisk.calls c.run_plan-history.new.disk) (g.D.ZonedDisk.left c.args.disk.now) (g.D.ZonedDisk.left c.open.new.disk) (g.D.ZonedDisk.left c.run_plan-history.new.disk)
-    c.run_plan-history.ensures.calls c.run_plan-history.ensures.left c.run_plan-history.ensures.zones c.in-Ok.ensures.durable
+    let see = seen_by g.D.ZonedDisk in
+    durable_read (see c.open.new.disk) (see c.run_plan-history.new.disk)
+    c.run_plan-history.ensures.zones c.run_plan-history.ensures.calls c.run_plan-history.ensures.left c.in-Ok.ensures.durable
 
 pub returns-clause-counted : goal.returns-clause-counted
 returns-clause-counted g c status low image z =

@@ -2,6 +2,7 @@ use Rattle.std.proofs.Common.{◌≡◌, ◌+◌, ◌≤◌, Bool, replicate, sy
 use Rattle.std.proofs.lemmas.Result.{on_ok_weaker}
 use Rattle.zd_base.specs.Geometry.{Shape}
 use Rattle.zd_model.specs.Image.{Image, Same}
+use Rattle.zd_disk.proofs.Views.{seen_by}
 use Rattle.zd_disk.proofs.ToldLaws.{IfSome-each, Some-same}
 use Rattle.zd_disk.specs.Steps.{Wrote}
 use Rattle.zd_sets.specs.Calls.{clear_calls}
@@ -33,6 +34,7 @@ returns-clause-ok g c =
 
 pub returns-in_err-write-clause-left : goal.returns-in_err-write-clause-left
 returns-in_err-write-clause-left g c =
+    let see = seen_by g.D.ZonedDisk in
     let d = g.met.D.ZonedDisk in
     let some = c.zone_blocks-zone_blocks.ensures.shape.size.least in
     let shape = c.args.geometry.now in
@@ -40,13 +42,14 @@ returns-in_err-write-clause-left g c =
     let good = c.args.good in
     let old = c.args.disk.now in
     let middle = c.write.new.self in
-    stops_write (IsPartCleared shape zone good) shape (g.D.ZonedDisk.told old) (g.D.ZonedDisk.zones old) (g.D.ZonedDisk.calls old) (g.D.ZonedDisk.calls middle) (g.D.ZonedDisk.left old) (g.D.ZonedDisk.left middle)
-    c.requires.told (d.leaves old) c.write.ensures.calls zone 0 (replicate 512 0) (g.D.ZonedDisk.told middle) (g.D.ZonedDisk.zones middle) c.requires.zone (d.leaves middle)
+    stops_write (IsPartCleared shape zone good) shape (see old) (see middle)
+    c.requires.told (d.leaves old) c.write.ensures.calls zone 0 (replicate 512 0) c.requires.zone (d.leaves middle)
     (λ low reads before after e can image same is mixed. part_clear shape zone good before after same image c.requires.zone (omega arith) c.if-good.false mixed)
     c.write.ensures.left
 
 pub returns-clause-left : goal.returns-clause-left
 returns-clause-left g c =
+    let see = seen_by g.D.ZonedDisk in
     let d = g.met.D.ZonedDisk in
     let some = c.zone_blocks-zone_blocks.ensures.shape.size.least in
     let shape = c.args.geometry.now in
@@ -56,18 +59,19 @@ returns-clause-left g c =
     let middle = c.write.new.self in
     let new = c.flush.new.self in
     let way = clear_way shape zone good c.requires.zone (omega arith) in
-    stops_then (IsPartCleared shape zone good) way.then (Wrote zone 0 (replicate 512 0)) (g.D.ZonedDisk.zones old) (g.D.ZonedDisk.zones middle) (g.D.ZonedDisk.calls old) (g.D.ZonedDisk.calls middle) (g.D.ZonedDisk.calls new) (g.D.ZonedDisk.left old) (g.D.ZonedDisk.left middle) (g.D.ZonedDisk.left new)
+    stops_then (IsPartCleared shape zone good) way.then (Wrote zone 0 (replicate 512 0)) (see old) (see middle) (see new)
     (omega (arith, c.write.ensures.calls)) (omega (arith, c.flush.ensures.calls)) c.in_ok-write.ensures.ok
-    (stops_write (IsPartCleared shape zone good) shape (g.D.ZonedDisk.told old) (g.D.ZonedDisk.zones old) (g.D.ZonedDisk.calls old) (g.D.ZonedDisk.calls middle) (g.D.ZonedDisk.left old) (g.D.ZonedDisk.left middle)
-    c.requires.told (d.leaves old) c.write.ensures.calls zone 0 (replicate 512 0) (g.D.ZonedDisk.told middle) (g.D.ZonedDisk.zones middle) c.requires.zone (d.leaves middle)
+    (stops_write (IsPartCleared shape zone good) shape (see old) (see middle)
+    c.requires.told (d.leaves old) c.write.ensures.calls zone 0 (replicate 512 0) c.requires.zone (d.leaves middle)
     (λ low reads before after e can image same is mixed. part_clear shape zone good before after same image c.requires.zone (omega arith) c.if-good.false mixed)
     c.write.ensures.left)
-    (stops_flush (IsPartCleared shape zone good) shape (g.D.ZonedDisk.told middle) (g.D.ZonedDisk.zones middle) (g.D.ZonedDisk.calls middle) (g.D.ZonedDisk.calls new) (g.D.ZonedDisk.left middle) (g.D.ZonedDisk.left new)
+    (stops_flush (IsPartCleared shape zone good) shape (see middle) (see new)
     (c.in_ok-write.ensures.told ∙ c.requires.told) (d.leaves middle) c.flush.ensures.calls way.same c.flush.ensures.left)
 
 pub returns-clause-durable : goal.returns-clause-durable
 returns-clause-durable g c =
-    on_ok_weaker c.flush.result (λ last before. durable_new (g.D.ZonedDisk.zones c.write.new.self) (g.D.ZonedDisk.zones c.flush.new.self) (g.D.ZonedDisk.calls c.flush.new.self) (g.D.ZonedDisk.left c.flush.new.self) c.flush.ensures.zones last)
+    let see = seen_by g.D.ZonedDisk in
+    on_ok_weaker c.flush.result (λ last before. durable_new (see c.write.new.self) (see c.flush.new.self) c.flush.ensures.zones last)
     c.flush.ensures.durable
 
 pub returns-in_err-write-clause-way : goal.returns-in_err-write-clause-way
@@ -93,5 +97,5 @@ returns-clause-way g c =
 
 pub returns-clause-counted : goal.returns-clause-counted
 returns-clause-counted g c = ok_anyway c.flush.result (λ low.
-    made_two (g.D.ZonedDisk.calls c.args.disk.now) (g.D.ZonedDisk.calls c.write.new.self) (g.D.ZonedDisk.calls c.flush.new.self) c.write.ensures.calls c.flush.ensures.calls low
+    made_two _ _ _ c.write.ensures.calls c.flush.ensures.calls low
     ∙ ap (λ (good : Bool). g.D.ZonedDisk.calls c.args.disk.now + clear_calls good) (sym c.if-good.false))

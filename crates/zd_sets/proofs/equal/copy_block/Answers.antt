@@ -2,6 +2,7 @@ use Rattle.std.proofs.Common.{◌≡◌, ◌+◌, ◌/◌, ◌%◌, Option, OnOk
 use Rattle.std.proofs.lemmas.Result.{on_err_weaker, on_ok_weaker}
 use Rattle.std.specs.Str.{bytes_eq}
 use Rattle.zd_model.specs.Image.{Image, set_block}
+use Rattle.zd_disk.proofs.Views.{seen_by}
 use Rattle.zd_disk.proofs.ToldLaws.{Some-same}
 use Rattle.zd_disk.specs.Told.{Both}
 use Rattle.zd_sets.specs.Equal.{HasBlock}
@@ -29,6 +30,7 @@ returns-clause-ok g c =
 
 pub returns-clause-left : goal.returns-clause-left
 returns-clause-left g c =
+    let see = seen_by g.D.ZonedDisk in
     let d = g.met.D.ZonedDisk in
     let read = c.in_ok-read_set_block.ensures in
     let size = c.zone_blocks-zone_blocks.ensures.shape.size.least in
@@ -38,11 +40,11 @@ returns-clause-left g c =
     let block = c.args.block.now in
     let middle = c.read_set_block.new.disk in
     let new = c.write_block.new.disk in
-    stops_after_read (HasPartOfBlock shape first i block) (g.D.ZonedDisk.zones c.args.disk.now) (g.D.ZonedDisk.zones middle) (g.D.ZonedDisk.calls c.args.disk.now) (g.D.ZonedDisk.calls middle) (g.D.ZonedDisk.calls new) (g.D.ZonedDisk.left c.args.disk.now) (g.D.ZonedDisk.left middle) (g.D.ZonedDisk.left new)
+    stops_after_read (HasPartOfBlock shape first i block) (see c.args.disk.now) (see middle) (see new)
     read.zones read.calls read.left
-    (stops_write (HasPartOfBlock shape first i block) shape (g.D.ZonedDisk.told middle) (g.D.ZonedDisk.zones middle) (g.D.ZonedDisk.calls middle) (g.D.ZonedDisk.calls new) (g.D.ZonedDisk.left middle) (g.D.ZonedDisk.left new)
+    (stops_write (HasPartOfBlock shape first i block) shape (see middle) (see new)
     (read.told ∙ c.requires.told) (d.leaves middle) c.write_block.ensures.calls
-    (first + i / shape.zone_blocks) (i % shape.zone_blocks) block (g.D.ZonedDisk.told new) (g.D.ZonedDisk.zones new) c.requires.inside (d.leaves new)
+    (first + i / shape.zone_blocks) (i % shape.zone_blocks) block c.requires.inside (d.leaves new)
     (λ low old before after e can image same is mixed. part_block shape first i block before after same image (omega arith) c.requires.inside c.requires.size mixed)
     c.write_block.ensures.left)
 
@@ -78,4 +80,4 @@ returns-clause-counted g c =
     let other : bytes_eq block c.read_set_block.new.into ≡ false = search rules in
     ok_anyway c.write_block.result (λ low image e.
     let one = differ_by (set_block image c.args.first c.args.i) block (ap (bytes_eq block) (sym (read.value image e)) ∙ other) in
-    omega (arith, made_one (g.D.ZonedDisk.calls c.read_set_block.new.disk) (g.D.ZonedDisk.calls c.write_block.new.disk) c.write_block.ensures.calls low, read.calls, one))
+    omega (arith, made_one _ _ c.write_block.ensures.calls low, read.calls, one))

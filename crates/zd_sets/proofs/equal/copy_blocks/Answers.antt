@@ -1,11 +1,12 @@
 use Rattle.std.proofs.Common.{◌≡◌, ◌+◌, List, ℕ, cond, sym, ◌∙◌, subst, arith}
 use Rattle.zd_model.specs.Image.{Same, set_block, Image}
+use Rattle.zd_disk.proofs.Views.{seen_by}
 use Rattle.zd_disk.proofs.ToldLaws.{Some-same}
 use Rattle.zd_disk.specs.Told.{Both}
-use Rattle.zd_sets.specs.Calls.{MadeOf, differ, differing_from}
+use Rattle.zd_sets.specs.Calls.{differ, differing_from}
 use Rattle.zd_sets.specs.Equal.{HasBlock, HasBlocks}
 use Rattle.zd_sets.specs.Kept.{HasPartOfBlock, HasPartOfBlocks}
-use Rattle.zd_sets.proofs.CallLaws.{counted_flush, counted_more}
+use Rattle.zd_sets.proofs.CallLaws.{MadeTo, counted_flush, counted_more}
 use Rattle.zd_sets.proofs.EqualLaws.{Both-then, blocks_stay, copied_more, ok_anyway}
 use Rattle.zd_sets.proofs.StopLaws.{stops_flush, stops_more, stops_then}
 use Rattle.zd_sets.proofs.WayLaws.{blocks_way, one_of_blocks}
@@ -13,6 +14,7 @@ use Rattle.zd_sets.proofs.equal.copy_blocks.Goals as goal
 
 pub loop-i-preserved : goal.loop-i-preserved
 loop-i-preserved g c =
+    let see = seen_by g.D.ZonedDisk in
     let d = g.met.D.ZonedDisk in
     let size = c.zone_blocks-zone_blocks.ensures.shape.size.least in
     let shape = c.args.geometry.now in
@@ -28,19 +30,19 @@ loop-i-preserved g c =
       told = c.in_ok-copy_block.ensures.told ∙ c.loop-i.invariant.told;
       later = omega (arith, c.in_ok-copy_block.ensures.cause.later, c.loop-i.invariant.later);
       more = omega (arith, c.loop-i.invariant.more, c.copy_block.ensures.calls);
-      left = stops_then (HasPartOfBlocks shape first 1 end blocks) way.then (HasPartOfBlocks shape first 1 end blocks) (g.D.ZonedDisk.zones c.args.disk.now) (g.D.ZonedDisk.zones c.loop-i.disk) (g.D.ZonedDisk.calls c.args.disk.now) (g.D.ZonedDisk.calls c.loop-i.disk) (g.D.ZonedDisk.calls c.copy_block.new.disk) (g.D.ZonedDisk.left c.args.disk.now) (g.D.ZonedDisk.left c.loop-i.disk) (g.D.ZonedDisk.left c.copy_block.new.disk)
+      left = stops_then (HasPartOfBlocks shape first 1 end blocks) way.then (HasPartOfBlocks shape first 1 end blocks) (see c.args.disk.now) (see c.loop-i.disk) (see c.copy_block.new.disk)
           c.loop-i.invariant.more c.copy_block.ensures.calls c.loop-i.invariant.way c.loop-i.invariant.left
-          (stops_more (HasPartOfBlock shape first c.loop-i.i c.block.result.now) (HasPartOfBlocks shape first 1 end blocks) shape (g.D.ZonedDisk.told c.loop-i.disk) (g.D.ZonedDisk.zones c.loop-i.disk) (g.D.ZonedDisk.calls c.loop-i.disk) (g.D.ZonedDisk.calls c.copy_block.new.disk) (g.D.ZonedDisk.left c.loop-i.disk) (g.D.ZonedDisk.left c.copy_block.new.disk)
+          (stops_more (HasPartOfBlock shape first c.loop-i.i c.block.result.now) (HasPartOfBlocks shape first 1 end blocks) shape (see c.loop-i.disk) (see c.copy_block.new.disk)
           (c.loop-i.invariant.told ∙ c.requires.told) (d.leaves c.loop-i.disk) one c.copy_block.ensures.left);
       way = Both-then _ _ _ (HasPartOfBlocks shape first 1 end blocks) (HasPartOfBlock shape first c.loop-i.i c.block.result.now) (HasPartOfBlocks shape first 1 end blocks)
           (λ old middle new e m before here.
           way.then old middle new before (one middle new (Some-same _ _ (sym (d.agrees c.loop-i.disk middle m) ∙ c.loop-i.invariant.told ∙ c.requires.told)) here))
           c.loop-i.invariant.way c.copy_block.ensures.way;
-      counted = counted_more shape c.args.first c.loop-i.i blocks (g.D.ZonedDisk.zones c.args.disk.now) (g.D.ZonedDisk.zones c.loop-i.disk) (g.D.ZonedDisk.calls c.args.disk.now) (g.D.ZonedDisk.calls c.loop-i.disk) (g.D.ZonedDisk.calls c.copy_block.new.disk)
+      counted = counted_more shape c.args.first c.loop-i.i blocks (see c.args.disk.now) (see c.loop-i.disk) (see c.copy_block.new.disk)
           (omega arith) (omega arith) (c.requires.inside c.loop-i.i (omega arith)) c.copy_block.ensures.calls
           (λ image e. Some-same _ _ (sym (d.agrees c.args.disk.now image e) ∙ c.requires.told))
           c.loop-i.invariant.copied c.loop-i.invariant.counted
-          (subst (λ (block : List ℕ). MadeOf (g.D.ZonedDisk.zones c.loop-i.disk) (g.D.ZonedDisk.calls c.loop-i.disk) (g.D.ZonedDisk.calls c.copy_block.new.disk)
+          (subst (λ (block : List ℕ). MadeTo (see c.loop-i.disk) (see c.copy_block.new.disk)
           (λ image. cond (differ (set_block image c.args.first c.loop-i.i) block) 1 0)) c.block.ensures c.in_ok-copy_block.ensures.counted);
       copied = Both-then _ _ _ (HasBlocks shape first 1 c.loop-i.i blocks) (HasBlock shape first c.loop-i.i c.block.result.now) (HasBlocks shape first 1 (c.loop-i.i + 1) blocks)
           (λ old middle new e m before here.
@@ -67,6 +69,7 @@ returns-clause-ok g c =
 
 pub returns-in_err-copy_block-clause-left : goal.returns-in_err-copy_block-clause-left
 returns-in_err-copy_block-clause-left g c =
+    let see = seen_by g.D.ZonedDisk in
     let d = g.met.D.ZonedDisk in
     let size = c.zone_blocks-zone_blocks.ensures.shape.size.least in
     let shape = c.args.geometry.now in
@@ -78,13 +81,14 @@ returns-in_err-copy_block-clause-left g c =
     → HasPartOfBlocks shape first 1 end blocks before after = λ before after same here.
     one_of_blocks shape first 1 c.loop-i.i end blocks before after (omega arith) same (omega arith) (omega arith) c.requires.inside
     (subst (λ (block : List ℕ). HasPartOfBlock shape first c.loop-i.i block before after) c.block.ensures here) in
-    stops_then (HasPartOfBlocks shape first 1 end blocks) way.then (HasPartOfBlocks shape first 1 end blocks) (g.D.ZonedDisk.zones c.args.disk.now) (g.D.ZonedDisk.zones c.loop-i.disk) (g.D.ZonedDisk.calls c.args.disk.now) (g.D.ZonedDisk.calls c.loop-i.disk) (g.D.ZonedDisk.calls c.copy_block.new.disk) (g.D.ZonedDisk.left c.args.disk.now) (g.D.ZonedDisk.left c.loop-i.disk) (g.D.ZonedDisk.left c.copy_block.new.disk)
+    stops_then (HasPartOfBlocks shape first 1 end blocks) way.then (HasPartOfBlocks shape first 1 end blocks) (see c.args.disk.now) (see c.loop-i.disk) (see c.copy_block.new.disk)
     c.loop-i.invariant.more c.copy_block.ensures.calls c.loop-i.invariant.way c.loop-i.invariant.left
-    (stops_more (HasPartOfBlock shape first c.loop-i.i c.block.result.now) (HasPartOfBlocks shape first 1 end blocks) shape (g.D.ZonedDisk.told c.loop-i.disk) (g.D.ZonedDisk.zones c.loop-i.disk) (g.D.ZonedDisk.calls c.loop-i.disk) (g.D.ZonedDisk.calls c.copy_block.new.disk) (g.D.ZonedDisk.left c.loop-i.disk) (g.D.ZonedDisk.left c.copy_block.new.disk)
+    (stops_more (HasPartOfBlock shape first c.loop-i.i c.block.result.now) (HasPartOfBlocks shape first 1 end blocks) shape (see c.loop-i.disk) (see c.copy_block.new.disk)
     (c.loop-i.invariant.told ∙ c.requires.told) (d.leaves c.loop-i.disk) one c.copy_block.ensures.left)
 
 pub returns-clause-left : goal.returns-clause-left
 returns-clause-left g c =
+    let see = seen_by g.D.ZonedDisk in
     let d = g.met.D.ZonedDisk in
     let size = c.zone_blocks-zone_blocks.ensures.shape.size.least in
     let shape = c.args.geometry.now in
@@ -92,9 +96,9 @@ returns-clause-left g c =
     let end = c.args.end in
     let blocks = c.args.blocks.now in
     let way = blocks_way shape first 1 end blocks (omega arith) c.requires.inside in
-    stops_then (HasPartOfBlocks shape first 1 end blocks) way.then (HasPartOfBlocks shape first 1 end blocks) (g.D.ZonedDisk.zones c.args.disk.now) (g.D.ZonedDisk.zones c.loop-i.disk) (g.D.ZonedDisk.calls c.args.disk.now) (g.D.ZonedDisk.calls c.loop-i.disk) (g.D.ZonedDisk.calls c.flush.new.self) (g.D.ZonedDisk.left c.args.disk.now) (g.D.ZonedDisk.left c.loop-i.disk) (g.D.ZonedDisk.left c.flush.new.self)
+    stops_then (HasPartOfBlocks shape first 1 end blocks) way.then (HasPartOfBlocks shape first 1 end blocks) (see c.args.disk.now) (see c.loop-i.disk) (see c.flush.new.self)
     c.loop-i.invariant.more (omega (arith, c.flush.ensures.calls)) c.loop-i.invariant.way c.loop-i.invariant.left
-    (stops_flush (HasPartOfBlocks shape first 1 end blocks) shape (g.D.ZonedDisk.told c.loop-i.disk) (g.D.ZonedDisk.zones c.loop-i.disk) (g.D.ZonedDisk.calls c.loop-i.disk) (g.D.ZonedDisk.calls c.flush.new.self) (g.D.ZonedDisk.left c.loop-i.disk) (g.D.ZonedDisk.left c.flush.new.self)
+    (stops_flush (HasPartOfBlocks shape first 1 end blocks) shape (see c.loop-i.disk) (see c.flush.new.self)
     (c.loop-i.invariant.told ∙ c.requires.told) (d.leaves c.loop-i.disk) c.flush.ensures.calls way.same c.flush.ensures.left)
 
 pub returns-in_err-copy_block-clause-way : goal.returns-in_err-copy_block-clause-way
@@ -131,9 +135,10 @@ returns-clause-way g c =
 
 pub returns-clause-counted : goal.returns-clause-counted
 returns-clause-counted g c =
+    let see = seen_by g.D.ZonedDisk in
     let blocks = c.args.blocks.now in
     let end : c.loop-i.i ≡ c.args.end = omega arith in
-    let last = subst (λ (n : ℕ). MadeOf (g.D.ZonedDisk.zones c.args.disk.now) (g.D.ZonedDisk.calls c.args.disk.now) (g.D.ZonedDisk.calls c.loop-i.disk) (differing_from blocks c.args.first n)) end
+    let last = subst (λ (n : ℕ). MadeTo (see c.args.disk.now) (see c.loop-i.disk) (differing_from blocks c.args.first n)) end
     c.loop-i.invariant.counted in
-    ok_anyway c.flush.result (counted_flush blocks c.args.first c.args.end (g.D.ZonedDisk.zones c.args.disk.now) (g.D.ZonedDisk.calls c.args.disk.now) (g.D.ZonedDisk.calls c.loop-i.disk) (g.D.ZonedDisk.calls c.flush.new.self)
+    ok_anyway c.flush.result (counted_flush blocks c.args.first c.args.end (see c.args.disk.now) (see c.loop-i.disk) (see c.flush.new.self)
     c.flush.ensures.calls last)

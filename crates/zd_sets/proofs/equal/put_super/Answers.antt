@@ -4,6 +4,7 @@ use Rattle.zd_base.specs.Geometry.{Shape}
 use Rattle.zd_model.specs.Image.{Same}
 use Rattle.zd_model.specs.Super.{HasSizes, block_of}
 use Rattle.zd_model.specs.declared.metadata.Super.{Super}
+use Rattle.zd_disk.proofs.Views.{seen_by}
 use Rattle.zd_disk.proofs.ToldLaws.{Some-same}
 use Rattle.zd_base.specs.Layout.{used_blocks}
 use Rattle.zd_sets.specs.Equal.{HasSuper}
@@ -38,11 +39,13 @@ returns-clause-ok g c =
 
 pub returns-clause-durable : goal.returns-clause-durable
 returns-clause-durable g c =
-    on_ok_weaker c.flush.result (durable_new (g.D.ZonedDisk.zones c.write_super.new.disk) (g.D.ZonedDisk.zones c.flush.new.self) (g.D.ZonedDisk.calls c.flush.new.self) (g.D.ZonedDisk.left c.flush.new.self) c.flush.ensures.zones)
+    let see = seen_by g.D.ZonedDisk in
+    on_ok_weaker c.flush.result (durable_new (see c.write_super.new.disk) (see c.flush.new.self) c.flush.ensures.zones)
     c.flush.ensures.durable
 
 pub returns-in_err-write_super-clause-left : goal.returns-in_err-write_super-clause-left
 returns-in_err-write_super-clause-left g c =
+    let see = seen_by g.D.ZonedDisk in
     let d = g.met.D.ZonedDisk in
     let some = c.zone_blocks-zone_blocks.ensures.shape.size.least in
     let shape = c.args.geometry.now in
@@ -50,8 +53,8 @@ returns-in_err-write_super-clause-left g c =
     let old = c.args.disk.now in
     let middle = c.write_super.new.disk in
     let sizes = subst HasSizes c.head_at-head.ensures.value c.head_at-head.ensures.sizes in
-    stops_write (HasPartOfSuper shape chosen) shape (g.D.ZonedDisk.told old) (g.D.ZonedDisk.zones old) (g.D.ZonedDisk.calls old) (g.D.ZonedDisk.calls middle) (g.D.ZonedDisk.left old) (g.D.ZonedDisk.left middle)
-    c.requires.told (d.leaves old) c.write_super.ensures.calls chosen.other 0 (block_of c.head_at-head.result) (g.D.ZonedDisk.told middle) (g.D.ZonedDisk.zones middle) c.requires.placed.other (d.leaves middle)
+    stops_write (HasPartOfSuper shape chosen) shape (see old) (see middle)
+    c.requires.told (d.leaves old) c.write_super.ensures.calls chosen.other 0 (block_of c.head_at-head.result) c.requires.placed.other (d.leaves middle)
     (λ low reads before after e can image same is mixed.
     part_super shape chosen (used_blocks shape chosen.head.layout) before after same image is c.requires.placed.other (omega arith) sizes (c.requires.ready low reads e before can)
     (subst (λ (s : Super). IsMixed chosen.other 0 (block_of s) before after) c.head_at-head.ensures.value mixed))
@@ -59,6 +62,7 @@ returns-in_err-write_super-clause-left g c =
 
 pub returns-clause-left : goal.returns-clause-left
 returns-clause-left g c =
+    let see = seen_by g.D.ZonedDisk in
     let d = g.met.D.ZonedDisk in
     let some = c.zone_blocks-zone_blocks.ensures.shape.size.least in
     let shape = c.args.geometry.now in
@@ -68,15 +72,15 @@ returns-clause-left g c =
     let sizes = subst HasSizes c.head_at-head.ensures.value c.head_at-head.ensures.sizes in
     let new = c.flush.new.self in
     let way = super_way shape chosen c.requires.placed.other (omega arith) in
-    stops_then (HasPartOfSuper shape chosen) way.then (WroteBlock chosen.other 0 (block_of c.head_at-head.result)) (g.D.ZonedDisk.zones old) (g.D.ZonedDisk.zones middle) (g.D.ZonedDisk.calls old) (g.D.ZonedDisk.calls middle) (g.D.ZonedDisk.calls new) (g.D.ZonedDisk.left old) (g.D.ZonedDisk.left middle) (g.D.ZonedDisk.left new)
+    stops_then (HasPartOfSuper shape chosen) way.then (WroteBlock chosen.other 0 (block_of c.head_at-head.result)) (see old) (see middle) (see new)
     (omega (arith, c.write_super.ensures.calls)) (omega (arith, c.flush.ensures.calls)) c.in_ok-write_super.ensures.ok
-    (stops_write (HasPartOfSuper shape chosen) shape (g.D.ZonedDisk.told old) (g.D.ZonedDisk.zones old) (g.D.ZonedDisk.calls old) (g.D.ZonedDisk.calls middle) (g.D.ZonedDisk.left old) (g.D.ZonedDisk.left middle)
-    c.requires.told (d.leaves old) c.write_super.ensures.calls chosen.other 0 (block_of c.head_at-head.result) (g.D.ZonedDisk.told middle) (g.D.ZonedDisk.zones middle) c.requires.placed.other (d.leaves middle)
+    (stops_write (HasPartOfSuper shape chosen) shape (see old) (see middle)
+    c.requires.told (d.leaves old) c.write_super.ensures.calls chosen.other 0 (block_of c.head_at-head.result) c.requires.placed.other (d.leaves middle)
     (λ low reads before after e can image same is mixed.
     part_super shape chosen (used_blocks shape chosen.head.layout) before after same image is c.requires.placed.other (omega arith) sizes (c.requires.ready low reads e before can)
     (subst (λ (s : Super). IsMixed chosen.other 0 (block_of s) before after) c.head_at-head.ensures.value mixed))
     c.write_super.ensures.left)
-    (stops_flush (HasPartOfSuper shape chosen) shape (g.D.ZonedDisk.told middle) (g.D.ZonedDisk.zones middle) (g.D.ZonedDisk.calls middle) (g.D.ZonedDisk.calls new) (g.D.ZonedDisk.left middle) (g.D.ZonedDisk.left new)
+    (stops_flush (HasPartOfSuper shape chosen) shape (see middle) (see new)
     (c.in_ok-write_super.ensures.told ∙ c.requires.told) (d.leaves middle) c.flush.ensures.calls way.same c.flush.ensures.left)
 
 pub returns-in_err-write_super-clause-way : goal.returns-in_err-write_super-clause-way
