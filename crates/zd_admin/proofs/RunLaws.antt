@@ -8,9 +8,9 @@ use Rattle.zd_format.specs.Fresh.{IsFresh, IsFormatted, IsUnfit}
 use Rattle.zd_disk.proofs.ToldLaws.{Some-same}
 use Rattle.zd_ports.specs.Taking.{Takes}
 use Rattle.zd_admin.proofs.WordLaws.{one_number, third}
-use Rattle.zd_admin.specs.Words.{AsksFormat, IsCommand}
-use Rattle.zd_admin.specs.Output.{HasStatus, IsDone, Tells, output}
-use Rattle.zd_admin.specs.Admin.{EndsWell, Ends, IsDecided, IsDoneStatus, OneOutcome, Reports, no_label}
+use Rattle.zd_admin.specs.Words.{AsksFormat, IsAdminCommand}
+use Rattle.zd_admin.specs.Output.{HasAdminStatus, IsDone, TellsAdmin, admin_output}
+use Rattle.zd_admin.specs.Admin.{EndsWell, FormatEnds, IsAdminDecided, IsDoneStatus, OneAdminOutcome, AdminReports, no_label}
 use Rattle.zd_admin.specs.declared.outcome.Outcome.{Outcome}
 use Rattle.zd_admin.specs.declared.outcome.Outcome.TheVariants.{Formatted, Usage, Device, Memory, Unfit}
 
@@ -28,7 +28,7 @@ by_rule reserved volume layout image fresh =
 -- what was told is the report of the run
 pub reports : (words : List (List ℕ)) (reserved : ℕ) (volume : List ℕ) (geometry : Option Shape) (outcome : Outcome) (status : ℕ) (before : List ℕ)
     (after : Option (List ℕ)) (whole : Type 0)
-    → AsksFormat words reserved volume → Ends reserved geometry outcome → Tells outcome status before after whole → Reports words geometry status before after whole
+    → AsksFormat words reserved volume → FormatEnds reserved geometry outcome → TellsAdmin outcome status before after whole → AdminReports words geometry status before after whole
 reports words reserved volume geometry outcome status before after whole asks ends tells = record {
   outcome = tells.told;
   cause = inr (reserved, volume, asks, by tells.which);
@@ -36,12 +36,12 @@ reports words reserved volume geometry outcome status before after whole asks en
   taken = tells.taken;
 }
   where
-    by : (tells.told ≡ outcome) ⊎ (tells.told ≡ Memory) → Ends reserved geometry tells.told
-    by (inl e) = subst (Ends reserved geometry) (sym e) ends
-    by (inr e) = subst (Ends reserved geometry) (sym e) tt
+    by : (tells.told ≡ outcome) ⊎ (tells.told ≡ Memory) → FormatEnds reserved geometry tells.told
+    by (inl e) = subst (FormatEnds reserved geometry) (sym e) ends
+    by (inr e) = subst (FormatEnds reserved geometry) (sym e) tt
 
 -- a status in which all was done tells that it was
-pub done_by : (outcome : Outcome) (status : ℕ) → HasStatus outcome status ⊎ HasStatus Memory status → IsDoneStatus status → IsDone outcome
+pub done_by : (outcome : Outcome) (status : ℕ) → HasAdminStatus outcome status ⊎ HasAdminStatus Memory status → IsDoneStatus status → IsDone outcome
 done_by outcome status (inl (inr h)) d = h.1
 done_by outcome status (inr (inr h)) d = absurd h.1
 done_by outcome status (inr (inl h)) (inl z) = absurd (omega (arith, h, z))
@@ -63,7 +63,7 @@ one_reserved words r s v w a b = one_number r s (third _ _ _ _ _ _ _ _ (sym a.sp
 unfit_at : (r : ℕ) (told : Option Shape) (g : Shape) → IsUnfit r told → IsFormatted r g (formatted g r) told → ⊥
 unfit_at r told g unfit made = subst (IsUnfit r) made.geometry unfit made.fits
 
-one_end : (r : ℕ) (told : Option Shape) (o p : Outcome) → IsDecided o → IsDecided p → Ends r told o → Ends r told p → o ≡ p
+one_end : (r : ℕ) (told : Option Shape) (o p : Outcome) → IsAdminDecided o → IsAdminDecided p → FormatEnds r told o → FormatEnds r told p → o ≡ p
 one_end r told (Formatted chunks zone_blocks) (Formatted more blocks) d e f h =
     let same : f.0 ≡ h.0 = Some-same f.0 h.0 (sym f.1.geometry ∙ h.1.geometry) in
     ap₂ (λ (a b : ℕ). Formatted a b)
@@ -82,22 +82,22 @@ one_end r told Usage p d e f h = absurd f
 one_end r told Device p d e f h = absurd d
 one_end r told Memory p d e f h = absurd d
 
-pub one_outcome : OneOutcome
+pub one_outcome : OneAdminOutcome
 one_outcome words told o p d e (inl f) (inl h) = f.1 ∙ sym h.1
 one_outcome words told o p d e (inl f) (inr h) = absurd (f.0 (h.0, h.1, h.2))
 one_outcome words told o p d e (inr f) (inl h) = absurd (h.0 (f.0, f.1, f.2))
 one_outcome words told o p d e (inr f) (inr h) =
-    one_end f.0 told o p d e f.3 (subst (λ (r : ℕ). Ends r told p) (sym (one_reserved words f.0 h.0 f.1 h.1 f.2 h.2)) h.3)
+    one_end f.0 told o p d e f.3 (subst (λ (r : ℕ). FormatEnds r told p) (sym (one_reserved words f.0 h.0 f.1 h.1 f.2 h.2)) h.3)
 
 -- words that are no command
 pub reports_usage : (words : List (List ℕ)) (geometry : Option Shape) (status : ℕ) (before : List ℕ) (after : Option (List ℕ)) (whole : Type 0)
-    → (IsCommand words → ⊥) → HasStatus Usage status → Takes before after (output Usage) whole → Reports words geometry status before after whole
+    → (IsAdminCommand words → ⊥) → HasAdminStatus Usage status → Takes before after (admin_output Usage) whole → AdminReports words geometry status before after whole
 reports_usage words geometry status before after whole wrong answers taken =
     record { outcome = Usage; cause = inl (wrong, refl); answers = answers; taken = taken }
 
 -- where neither disk nor sink failed
 pub ends_well : (words : List (List ℕ)) (reserved : ℕ) (volume : List ℕ) (told : Option Shape) (outcome : Outcome) (status : ℕ)
-    → AsksFormat words reserved volume → Ends reserved told outcome → HasStatus outcome status ⊎ HasStatus Memory status
+    → AsksFormat words reserved volume → FormatEnds reserved told outcome → HasAdminStatus outcome status ⊎ HasAdminStatus Memory status
     → (outcome ≡ Device → ⊥) → (status ≡ 6 → ⊥) → EndsWell words told status
 ends_well words reserved volume told outcome status asks ends (inr (inl h)) no_device no_sink = inl h
 ends_well words reserved volume told outcome status asks ends (inr (inr h)) no_device no_sink = absurd h.1

@@ -8,7 +8,7 @@ use Rattle.std.proofs.lemmas.Slice.Eq.{bytes_eq-Decides}
 use Rattle.std.specs.Str.Parse.{ParsesUnsigned}
 use Rattle.std.proofs.lemmas.Fmt.{parse-decimal}
 use Rattle.std.proofs.lemmas.List.{length-map}
-use Rattle.zd_admin.specs.Words.{IsCommand}
+use Rattle.zd_admin.specs.Words.{IsAdminCommand}
 use Rattle.zd_model.specs.Text.{numeral}
 use Rattle.zd_model.proofs.Decimals.{numeral_decimal}
 use Rattle.zd_model.proofs.TextLaws.{same_numeral}
@@ -62,7 +62,7 @@ pub ok_same : {E : Type 0} (m n : ℕ) → ◌≡◌ {A = Result ℕ E} (Ok m) (
 ok_same m n e = cc
 
 -- a command has six words
-pub has_six : {X : Type 0} (f : X → List ℕ) (ws : List X) → IsCommand (map f ws) → length ws ≡ 6
+pub has_six : {X : Type 0} (f : X → List ℕ) (ws : List X) → IsAdminCommand (map f ws) → length ws ≡ 6
 has_six {X} f ws h = sym (length-map {A = X} {B = List ℕ} ws f) ∙ ap length h.2.spelled
 
 pub third : (a b c p q r : List ℕ) (more rest : List (List ℕ)) → ◌≡◌ {A = List (List ℕ)} (a ∷ b ∷ c ∷ more) (p ∷ q ∷ r ∷ rest) → c ≡ r

@@ -6,57 +6,57 @@ use Rattle.zd_base.specs.Layout.{formatted}
 use Rattle.zd_model.specs.Image.{Image}
 use Rattle.zd_format.specs.Fresh.{IsFormatted, IsFresh, IsUnfit}
 use Rattle.zd_ports.specs.Taking.{Takes}
-use Rattle.zd_admin.specs.Words.{AsksFormat, IsCommand}
-use Rattle.zd_admin.specs.Output.{HasStatus, output}
+use Rattle.zd_admin.specs.Words.{AsksFormat, IsAdminCommand}
+use Rattle.zd_admin.specs.Output.{HasAdminStatus, admin_output}
 use Rattle.zd_admin.specs.declared.outcome.Outcome.{Outcome}
 use Rattle.zd_admin.specs.declared.outcome.Outcome.TheVariants.{Formatted, Usage, Device, Memory}
 use Rattle.zd_admin.specs.declared.outcome.Outcome.TheVariants.{Unfit}
 
 -- how formatting ended, for so many reserved zones, where the disk tells its geometry so
-abbrev pub Ends : ℕ → Option Shape → Outcome → Type 0
-Ends reserved told (Formatted chunks zone_blocks) = (g : Shape)
+abbrev pub FormatEnds : ℕ → Option Shape → Outcome → Type 0
+FormatEnds reserved told (Formatted chunks zone_blocks) = (g : Shape)
     × IsFormatted reserved g (formatted g reserved) told
     × (chunks ≡ (formatted g reserved).chunks) × (zone_blocks ≡ g.zone_blocks)
-Ends reserved told Unfit = IsUnfit reserved told
-Ends reserved told Usage = ⊥
-Ends reserved told Device = Unit {0}
-Ends reserved told Memory = Unit {0}
+FormatEnds reserved told Unfit = IsUnfit reserved told
+FormatEnds reserved told Usage = ⊥
+FormatEnds reserved told Device = Unit {0}
+FormatEnds reserved told Memory = Unit {0}
 
 -- when a run ends so: the words decide first
-abbrev pub Comes : List (List ℕ) → Option Shape → Outcome → Type 0
-Comes words told outcome =
-    ((IsCommand words → ⊥) × (outcome ≡ Usage))
+abbrev pub AdminEnds : List (List ℕ) → Option Shape → Outcome → Type 0
+AdminEnds words told outcome =
+    ((IsAdminCommand words → ⊥) × (outcome ≡ Usage))
     ⊎ ((reserved : ℕ) × (volume : List ℕ) × AsksFormat words reserved volume
-    × Ends reserved told outcome)
+    × FormatEnds reserved told outcome)
 
 -- the outcomes that words and geometry decide, and no count of faults and no memory
-abbrev pub IsDecided : Outcome → Type 0
-IsDecided (Formatted chunks zone_blocks) = Unit {0}
-IsDecided Usage = Unit {0}
-IsDecided Unfit = Unit {0}
-IsDecided outcome = ⊥
+abbrev pub IsAdminDecided : Outcome → Type 0
+IsAdminDecided (Formatted chunks zone_blocks) = Unit {0}
+IsAdminDecided Usage = Unit {0}
+IsAdminDecided Unfit = Unit {0}
+IsAdminDecided outcome = ⊥
 
 -- one of them comes at most: so each comes exactly where its cause holds, but for faults and memory
-abbrev pub OneOutcome : Type 0
-OneOutcome = (words : List (List ℕ)) (told : Option Shape) (o p : Outcome) →
-    IsDecided o → IsDecided p → Comes words told o → Comes words told p → o ≡ p
+abbrev pub OneAdminOutcome : Type 0
+OneAdminOutcome = (words : List (List ℕ)) (told : Option Shape) (o p : Outcome) →
+    IsAdminDecided o → IsAdminDecided p → AdminEnds words told o → AdminEnds words told p → o ≡ p
 
 -- the statuses that a run can end with
-abbrev pub IsStatus : ℕ → Type 0
-IsStatus status = IsTrue (list_any (λ s. s == status) (0 ∷ 1 ∷ 4 ∷ 6 ∷ 7 ∷ 10 ∷ []))
+abbrev pub IsAdminStatus : ℕ → Type 0
+IsAdminStatus status = IsTrue (list_any (λ s. s == status) (0 ∷ 1 ∷ 4 ∷ 6 ∷ 7 ∷ 10 ∷ []))
 
 -- all was done, whether the sink took the output or not
 abbrev pub IsDoneStatus : ℕ → Type 0
 IsDoneStatus status = (status ≡ 0) ⊎ (status ≡ 6)
 
 -- there is an outcome with its cause, and what the sink took is its text
-pub record Reports
+pub record AdminReports
     (words : List (List ℕ)) (told : Option Shape) (status : ℕ)
     (before : List ℕ) (after : Option (List ℕ)) (whole : Type 0) : Type 0 where
   pub outcome : Outcome
-  pub cause : Comes words told outcome
-  pub answers : HasStatus outcome status
-  pub taken : Takes before after (output outcome) whole
+  pub cause : AdminEnds words told outcome
+  pub answers : HasAdminStatus outcome status
+  pub taken : Takes before after (admin_output outcome) whole
 
 -- a label of no letters
 unfoldable pub no_label : List ℕ

@@ -17,10 +17,10 @@ pub record AsksFormat (words : List (List ℕ)) (reserved : ℕ) (volume : List 
   pub path : is_option image ≡ false
 
 -- the words are a command
-abbrev pub IsCommand : List (List ℕ) → Type 0
-IsCommand words = (reserved : ℕ) × (volume : List ℕ) × AsksFormat words reserved volume
+abbrev pub IsAdminCommand : List (List ℕ) → Type 0
+IsAdminCommand words = (reserved : ℕ) × (volume : List ℕ) × AsksFormat words reserved volume
 
 -- the word of a command that stands for the image; none where the words are no command
 abbrev pub NamesImage : List (List ℕ) → Option (List ℕ) → Type 0
-NamesImage words None = IsCommand words → ⊥
-NamesImage words (Some image) = IsCommand words × (slice_get words 5 ≡ Some image)
+NamesImage words None = IsAdminCommand words → ⊥
+NamesImage words (Some image) = IsAdminCommand words × (slice_get words 5 ≡ Some image)

@@ -2,7 +2,7 @@
 
 ghost use Rattle.std.specs.Prelude.{◌≡◌, ◌++◌, IfOk, OnOk, string_bytes};
 ghost use Rattle.zd_model.specs.Text.{numeral};
-ghost use Rattle.zd_admin.specs.Output.{IsFixed, output, status_of};
+ghost use Rattle.zd_admin.specs.Output.{IsFixedOutput, admin_output, admin_status};
 
 use std::alloc::{AllocError, Global};
 use zd_base::Status;
@@ -24,7 +24,7 @@ pub enum Outcome {
 
 /// The exit status of an outcome.
 pub fn status_of(outcome: Outcome) -> Status
-    ensures { result.0 ≡ status_of outcome }
+    ensures { result.0 ≡ admin_status outcome }
 {
     Status(match outcome {
         Outcome::Formatted { .. } => 0,
@@ -37,8 +37,8 @@ pub fn status_of(outcome: Outcome) -> Status
 
 /// The output of an outcome whose line tells no number. It takes no memory.
 pub fn fixed_line(outcome: Outcome) -> &'static str
-    requires { IsFixed outcome }
-    ensures { result.now ≡ output outcome }
+    requires { IsFixedOutput outcome }
+    ensures { result.now ≡ admin_output outcome }
 {
     match outcome {
         Outcome::Formatted { .. } => unreachable!(),
@@ -59,7 +59,7 @@ fn add_number(text: &mut String, n: u32) -> Result<(), AllocError>
 /// The output of a run that formatted a disk.
 pub fn formatted_text(alloc: Global, chunks: u32, zone_blocks: u32) -> Result<String, AllocError>
     ensures { IfOk result (λ text.
-        string_bytes text ≡ output (Outcome.Formatted chunks zone_blocks)) }
+        string_bytes text ≡ admin_output (Outcome.Formatted chunks zone_blocks)) }
 {
     let mut text = String::from_str(alloc, "formatted ")?;
     add_number(&mut text, chunks)?;

@@ -3,12 +3,12 @@
 ghost use Rattle.std.specs.Prelude.{◌≡◌, ◌↔◌, ◌≤◌, map, string_bytes};
 ghost use Rattle.zd_base.specs.Faults.{Rose};
 ghost use Rattle.zd_disk.specs.Told.{WhereTold};
-ghost use Rattle.zd_format.specs.Fresh.{EachLeft};
+ghost use Rattle.zd_disk.specs.View.{HasFailed, Holds, OnlyReads, Stays};
 ghost use Rattle.zd_ports.specs.Taking.{IsFaultless, IsTaken};
-ghost use Rattle.zd_admin.specs.Words.{IsCommand};
+ghost use Rattle.zd_admin.specs.Words.{IsAdminCommand};
 ghost use Rattle.zd_admin.specs.Output.{IsDone};
-ghost use Rattle.zd_admin.specs.Admin.{Ends, EndsWell, IsDoneStatus, IsFreshBy, IsStatus, IsUnfitBy};
-ghost use Rattle.zd_admin.specs.Admin.{Reports, WasMade, no_label};
+ghost use Rattle.zd_admin.specs.Admin.{FormatEnds, EndsWell, IsDoneStatus, IsFreshBy, IsAdminStatus, IsUnfitBy};
+ghost use Rattle.zd_admin.specs.Admin.{AdminReports, WasMade, no_label};
 
 use crate::outcome::Outcome;
 use crate::report::{tell, tell_line};
@@ -25,16 +25,11 @@ const NO_LABEL: [u8; 32] = [0; 32];
 /// Formats a disk as it was asked.
 #[tactic(auto, unfolding(crate::specs::Admin::no_label))]
 fn run<D: ZonedDisk>(alloc: Global, disk: &mut D, asked: Asked) -> Outcome
-    ensures ended { Ends asked.reserved (D.told disk.new) result }
-    ensures reads { IsDone result →
-        WhereTold (D.zones disk.new) (WasMade asked.reserved asked.volume) }
-    ensures same { result ≡ Outcome.Unfit →
-        (D.zones disk.new ≡ D.zones disk.old) × (D.calls disk.new ≡ D.calls disk.old) }
-    ensures durable { IsDone result →
-        EachLeft (D.zones disk.new) (D.calls disk.new) (D.left disk.new)
-        (WasMade asked.reserved asked.volume) }
-    ensures device { result ≡ Outcome.Device → Rose (D.faults disk.old) (D.faults disk.new) }
-    ensures later { D.faults disk.old ≤ D.faults disk.new }
+    ensures ok { IsDone result → Holds (WasMade asked.reserved asked.volume) (D.view disk.new) }
+    ensures ended { FormatEnds asked.reserved (D.view disk.new).told result }
+    ensures same { result ≡ Outcome.Unfit → OnlyReads (D.view disk.old) (D.view disk.new) }
+    ensures stays { Stays (D.view disk.old) (D.view disk.new) }
+    ensures cause { result ≡ Outcome.Device → HasFailed (D.view disk.old) (D.view disk.new) }
 {
     match format_disk(alloc, disk, asked.reserved, NO_LABEL, asked.volume) {
         Ok(made) => Outcome::Formatted {
@@ -59,35 +54,32 @@ pub fn admin<D: ZonedDisk, K: Sink>(
     mut disk: D,
     out: &mut K,
 ) -> (Status, D)
-    ensures usage { (result.0.0 ≡ 1) ↔ (IsCommand (map string_bytes words.now) → ⊥) }
-    ensures statuses { IsStatus result.0.0 }
+    ensures usage { (result.0.0 ≡ 1) ↔ (IsAdminCommand (map string_bytes words.now) → ⊥) }
+    ensures statuses { IsAdminStatus result.0.0 }
 
     // What is told of a run: its outcome with its cause, in the sink.
     ensures report { WhereTold (K.held out.old) (λ before.
-        Reports (map string_bytes words.now) (D.told result.1) result.0.0 before (K.held out.new)
+        AdminReports (map string_bytes words.now) (D.view result.1).told result.0.0 before (K.held out.new)
         (IsTaken result.0.0 (K.faults out.old) (K.faults out.new))) }
 
     // Where all was done, the disk is the volume for which the words ask, also after a stop.
-    ensures reads { IsDoneStatus result.0.0 →
-        WhereTold (D.zones result.1) (IsFreshBy (map string_bytes words.now)) }
-    ensures durable { IsDoneStatus result.0.0 →
-        EachLeft (D.zones result.1) (D.calls result.1) (D.left result.1)
-        (IsFreshBy (map string_bytes words.now)) }
+    ensures ok { IsDoneStatus result.0.0 →
+        Holds (IsFreshBy (map string_bytes words.now)) (D.view result.1) }
 
-    ensures device { result.0.0 ≡ 4 → Rose (D.faults disk) (D.faults result.1) }
+    ensures device { result.0.0 ≡ 4 → HasFailed (D.view disk) (D.view result.1) }
     ensures sink { result.0.0 ≡ 6 → Rose (K.faults out.old) (K.faults out.new) }
 
     // Where the disk has no room, nothing was written. Where the words are no command, it is the very
     // value.
-    ensures unfit { result.0.0 ≡ 10 → IsUnfitBy (map string_bytes words.now) (D.told result.1)
-        × (D.zones result.1 ≡ D.zones disk) × (D.calls result.1 ≡ D.calls disk) }
+    ensures unfit { result.0.0 ≡ 10 → IsUnfitBy (map string_bytes words.now) (D.view result.1).told
+        × OnlyReads (D.view disk) (D.view result.1) }
     ensures same { result.0.0 ≡ 1 → result.1 ≡ disk }
 
     // Where nothing is wrong and nothing fails, room decides, unless no memory is found.
-    ensures complete { IsCommand (map string_bytes words.now) →
-        IsFaultless (D.faults disk) (D.faults result.1) →
+    ensures complete { IsAdminCommand (map string_bytes words.now) →
+        IsFaultless (D.view disk).faults (D.view result.1).faults →
         IsFaultless (K.faults out.old) (K.faults out.new) →
-        EndsWell (map string_bytes words.now) (D.told result.1) result.0.0 }
+        EndsWell (map string_bytes words.now) (D.view result.1).told result.0.0 }
 {
     let Some(asked) = command(words) else {
         return (tell_line(out, Outcome::Usage), disk);

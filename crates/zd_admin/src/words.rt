@@ -4,7 +4,7 @@ ghost use Rattle.std.specs.Prelude.{◌≡◌, ◌≤◌, ℕ, map, string_bytes
 ghost use Rattle.std.specs.Option.{option_copied};
 ghost use Rattle.uuid.specs.Text.{parsed};
 ghost use Rattle.zd_model.specs.Text.{numeral};
-ghost use Rattle.zd_admin.specs.Words.{AsksFormat, IsCommand, NamesImage};
+ghost use Rattle.zd_admin.specs.Words.{AsksFormat, IsAdminCommand, NamesImage};
 
 use itoa::Buffer;
 use uuid::Uuid;
@@ -54,7 +54,7 @@ fn identifier(word: &str) -> Option<Uuid>
 pub fn command(words: &[String]) -> Option<Asked>
     ensures some { IfSome result (λ a.
         AsksFormat (map string_bytes words.now) a.reserved a.volume) }
-    ensures none { IfNone result (IsCommand (map string_bytes words.now) → ⊥) }
+    ensures none { IfNone result (IsAdminCommand (map string_bytes words.now) → ⊥) }
 {
     let [format, seq, reserved, uuid, volume, image] = words else {
         return None;

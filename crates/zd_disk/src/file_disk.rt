@@ -3,8 +3,8 @@
 ghost use Rattle.std.specs.Prelude.{◌≡◌, ◌≤◌, ◌↔◌, Some, None, IsSome, IsOk, IfOk, OnOk, IfSome, IsSomeAnd};
 ghost use Rattle.std.proofs.lemmas.Option.{none-some};
 ghost use Rattle.zd_base.specs.Geometry.{zone_sectors};
-ghost use Rattle.zd_disk.specs.FileDisk.{IsRun, CountsFaults};
-ghost use Rattle.zd_disk.specs.Told.{IsSequentialZone, next_count};
+ghost use Rattle.zd_disk.specs.FileDisk.{Asks, CountsFaults, CountsRead, CountsWrite, IsSectorRun};
+ghost use Rattle.zd_disk.specs.Told.{IsSequentialZone};
 
 use crate::ZonedDisk;
 use crate::image_file::ImageFile;
@@ -18,11 +18,12 @@ use zd_base::{Failed, Geometry, ZoneNo};
 /// It trusts neither the file nor its callers: `Failed` is also the answer to a call at a wrong place,
 /// and to each call where the file couldn't be opened or its header is bad. Nothing is promised of a
 /// stop of the machine. Contracts see it as an `Edge`: the geometry where the file has a right header,
-/// and the counts of writing calls and faults.
+/// and the counts of writing calls, reading calls and faults.
 #[derive(Drop)]
 pub struct FileDisk<F> {
     image: Option<ImageFile<F>>,
     calls: u64,
+    read_calls: u64,
     faults: u64,
 }
 
@@ -35,6 +36,7 @@ impl<F> Model for FileDisk<F> {
     ghost view = { λ d. record {
       told = option_map (λ i. i.geometry) d.image;
       calls = d.calls;
+      read_calls = d.read_calls;
       faults = d.faults;
     } };
 }
@@ -42,22 +44,24 @@ impl<F> Model for FileDisk<F> {
 impl<F: Read + Write + Seek + OpenFile + Drop> FileDisk<F> {
     /// The disk in the image file at this path.
     pub fn at<R: Files<File = F>>(rt: &R, path: &str) -> FileDisk<F>
-        ensures counts { (result.calls ≡ 0) × (result.faults ≡ 0) }
+        ensures counts { (result.calls ≡ 0) × (result.read_calls ≡ 0) × (result.faults ≡ 0) }
     {
         FileDisk {
             image: ImageFile::open(rt, path),
             calls: 0,
+            read_calls: 0,
             faults: 0,
         }
     }
 
     /// A disk that fails at every call.
     pub fn none() -> FileDisk<F>
-        ensures { result ≡ record { told = None; calls = 0; faults = 0 } }
+        ensures { result ≡ record { told = None; calls = 0; read_calls = 0; faults = 0 } }
     {
         FileDisk {
             image: None,
             calls: 0,
+            read_calls: 0,
             faults: 0,
         }
     }
@@ -75,29 +79,23 @@ fn counted<T>(faults: &mut u64, answer: Result<T, Failed>) -> Result<T, Failed>
 }
 
 impl<F: Read + Write + Seek + OpenFile + Drop> ZonedDisk for FileDisk<F> {
-    ghost told = { λ d. d.told };
-
-    ghost zones = { λ d. None };
-
-    ghost calls = { λ d. d.calls };
-
-    ghost left = { λ d k i. ⊥ };
-
-    ghost faults = { λ d. d.faults };
-
-    ghost agrees = { λ d i e. absurd (none-some i e) };
-
-    ghost shaped = { λ d i e. absurd (none-some i e) };
-
-    ghost leaves = { λ d k i within left. absurd left };
-
-    ghost reads = { λ d i small e. absurd (none-some i e) };
+    ghost view = { λ d. record {
+      told = d.told;
+      zones = None;
+      calls = d.calls;
+      read_calls = d.read_calls;
+      left = λ k i. ⊥;
+      faults = d.faults;
+      agrees = λ i e. absurd (none-some i e);
+      shaped = λ i e. absurd (none-some i e);
+      leaves = λ k i within left. absurd left;
+      reads = λ i small e. absurd (none-some i e);
+    } };
 
     fn geometry(&mut self) -> Result<Geometry, Failed>
         ensures ok { IsOk result ↔ IsSome self.old.told }
         ensures value { IfOk result (λ g. self.old.told ≡ Some g) }
-        ensures told { self.new.told ≡ self.old.told }
-        ensures calls { self.new.calls ≡ self.old.calls }
+        ensures counted { Asks self.old self.new }
         ensures faults { CountsFaults self.old.faults self.new.faults result }
     {
         let answer = match &self.image {
@@ -110,10 +108,10 @@ impl<F: Read + Write + Seek + OpenFile + Drop> ZonedDisk for FileDisk<F> {
     fn report(&mut self, zone: ZoneNo) -> Result<u32, Failed>
         ensures ok { OnOk result (IsSomeAnd self.old.told (IsSequentialZone zone)) }
         ensures within { IfOk result (λ p. IfSome self.old.told (λ g. p ≤ zone_sectors g)) }
-        ensures told { self.new.told ≡ self.old.told }
-        ensures calls { self.new.calls ≡ self.old.calls }
+        ensures counted { CountsRead self.old self.new }
         ensures faults { CountsFaults self.old.faults self.new.faults result }
     {
+        self.read_calls = self.read_calls.saturating_add(1);
         let answer = match &mut self.image {
             Some(image) => image.report(zone),
             None => Err(Failed),
@@ -122,11 +120,11 @@ impl<F: Read + Write + Seek + OpenFile + Drop> ZonedDisk for FileDisk<F> {
     }
 
     fn read(&mut self, zone: ZoneNo, start: u32, into: &mut [u8]) -> Result<(), Failed>
-        ensures ok { OnOk result (IsSomeAnd self.old.told (IsRun zone start into.old)) }
-        ensures told { self.new.told ≡ self.old.told }
-        ensures calls { self.new.calls ≡ self.old.calls }
+        ensures ok { OnOk result (IsSomeAnd self.old.told (IsSectorRun zone start into.old)) }
+        ensures counted { CountsRead self.old self.new }
         ensures faults { CountsFaults self.old.faults self.new.faults result }
     {
+        self.read_calls = self.read_calls.saturating_add(1);
         let answer = match &mut self.image {
             Some(image) => image.read(zone, start, into),
             None => Err(Failed),
@@ -135,9 +133,8 @@ impl<F: Read + Write + Seek + OpenFile + Drop> ZonedDisk for FileDisk<F> {
     }
 
     fn write(&mut self, zone: ZoneNo, start: u32, bytes: &[u8]) -> Result<(), Failed>
-        ensures ok { OnOk result (IsSomeAnd self.old.told (IsRun zone start bytes.now)) }
-        ensures told { self.new.told ≡ self.old.told }
-        ensures calls { self.new.calls ≡ next_count self.old.calls }
+        ensures ok { OnOk result (IsSomeAnd self.old.told (IsSectorRun zone start bytes.now)) }
+        ensures counted { CountsWrite self.old self.new }
         ensures faults { CountsFaults self.old.faults self.new.faults result }
     {
         self.calls = self.calls.saturating_add(1);
@@ -150,8 +147,7 @@ impl<F: Read + Write + Seek + OpenFile + Drop> ZonedDisk for FileDisk<F> {
 
     fn reset(&mut self, zone: ZoneNo) -> Result<(), Failed>
         ensures ok { OnOk result (IsSomeAnd self.old.told (IsSequentialZone zone)) }
-        ensures told { self.new.told ≡ self.old.told }
-        ensures calls { self.new.calls ≡ next_count self.old.calls }
+        ensures counted { CountsWrite self.old self.new }
         ensures faults { CountsFaults self.old.faults self.new.faults result }
     {
         self.calls = self.calls.saturating_add(1);
@@ -164,8 +160,7 @@ impl<F: Read + Write + Seek + OpenFile + Drop> ZonedDisk for FileDisk<F> {
 
     fn flush(&mut self) -> Result<(), Failed>
         ensures ok { OnOk result (IsSome self.old.told) }
-        ensures told { self.new.told ≡ self.old.told }
-        ensures calls { self.new.calls ≡ next_count self.old.calls }
+        ensures counted { CountsWrite self.old self.new }
         ensures faults { CountsFaults self.old.faults self.new.faults result }
     {
         self.calls = self.calls.saturating_add(1);

@@ -1,5 +1,5 @@
 -- What one write of whole blocks makes of a set.
-use Rattle.std.proofs.Common.{◌≡◌, ◌⊎◌, ℕ, zero, suc, ◌+◌, ◌*◌, ◌/◌, ◌%◌, ◌<◌, ◌≤◌, List, ◌++◌, length, take, drop, Option, Some, None, Result, Ok, Err, OnOk, refl, sym, ap, ap₂, ◌∙◌, subst, arith, inl, inr}
+use Rattle.std.proofs.Common.{◌≡◌, ◌⊎◌, ℕ, zero, suc, ◌+◌, ◌*◌, ◌/◌, ◌%◌, ◌<◌, ◌≤◌, List, ◌++◌, length, take, drop, refl, sym, ap, ap₂, ◌∙◌, arith, inl, inr}
 use Rattle.std.proofs.Math.Nat.{mod-lt}
 use Rattle.std.proofs.Math.Seq.{take-add}
 use Rattle.std.proofs.lemmas.List.{drop-drop}
@@ -7,7 +7,6 @@ use Rattle.zd_base.specs.Geometry.{Shape, IsShape}
 use Rattle.zd_model.specs.Image.{Image, IsImage, run_of, block_at, set_block}
 use Rattle.zd_model.proofs.SameLaws.{same_run}
 use Rattle.zd_disk.specs.Steps.{Wrote, piece}
-use Rattle.zd_disk.specs.Told.{Both}
 use Rattle.zd_format.specs.Sets.{PutBlocks, blocks_in, block_in}
 use Rattle.zd_format.proofs.PlaceLaws.{place_in_zone, earlier_place, place_of}
 
@@ -81,24 +80,3 @@ module _ (first b : ℕ) (bytes : List ℕ) (old new : Image) (image : IsImage o
 
   pub put_blocks : PutBlocks first b bytes old new
   put_blocks = record { geometry = wrote.geometry; put = put_there; before = before_there }
-
--- where it is told, and the disk's geometry is g
-pub told_put : (g : Shape) (first b zone start : ℕ) (bytes : List ℕ) (old new : Option Image)
-    → ((i : Image) → old ≡ Some i → IsImage i × (i.geometry ≡ g)) → IsShape g → length bytes ≡ 4096 * blocks_in bytes
-    → first + b / g.zone_blocks < g.conv → b % g.zone_blocks + blocks_in bytes ≤ g.zone_blocks
-    → zone ≡ first + b / g.zone_blocks → start ≡ 8 * (b % g.zone_blocks)
-    → Both old new (Wrote zone start bytes) → Both old new (PutBlocks first b bytes)
-told_put g first b zone start bytes None None told shape whole low within at from wrote = tt
-told_put g first b zone start bytes None (Some j) told shape whole low within at from wrote = wrote
-told_put g first b zone start bytes (Some i) None told shape whole low within at from wrote = wrote
-told_put g first b zone start bytes (Some i) (Some j) told shape whole low within at from wrote =
-    let is = told i refl in
-    subst (λ (s : Shape). first + b / s.zone_blocks < s.conv → b % s.zone_blocks + blocks_in bytes ≤ s.zone_blocks
-    → zone ≡ first + b / s.zone_blocks → start ≡ 8 * (b % s.zone_blocks) → IsShape s → PutBlocks first b bytes i j) is.1
-    (λ l w z f s. put_blocks first b bytes i j is.0 s whole l w
-    (subst (λ (n : ℕ). Wrote n (8 * (b % i.geometry.zone_blocks)) bytes i j) z (subst (λ (n : ℕ). Wrote zone n bytes i j) f wrote)))
-    low within at from shape
-
-pub ok_put : {T E : Type 0} (r : Result T E) (P Q : Type 0) → (P → Q) → OnOk r P → OnOk r Q
-ok_put (Ok x) P Q f h = f h
-ok_put (Err x) P Q f h = tt

@@ -1,5 +1,5 @@
 -- What is written in both sets depends on what the disk holds alone.
-use Rattle.std.proofs.Common.{◌≡◌, ◌⊎◌, ℕ, ◌+◌, ◌*◌, ◌/◌, ◌%◌, ◌<◌, ◌≤◌, Option, Some, Result, Ok, Err, OnOk, IfSome, refl, sym, ap, ◌∙◌, subst, arith, inl, inr}
+use Rattle.std.proofs.Common.{◌≡◌, ◌⊎◌, ℕ, ◌+◌, ◌*◌, ◌/◌, ◌%◌, ◌<◌, ◌≤◌, refl, sym, ap, ◌∙◌, subst, arith, inl, inr}
 use Rattle.std.proofs.Math.Nat.{mod-lt}
 use Rattle.std.proofs.lemmas.Bool.{cases_lt}
 use Rattle.zd_base.specs.Geometry.{Shape, IsShape}
@@ -7,9 +7,10 @@ use Rattle.zd_base.specs.Layout.{Fits, set_zones}
 use Rattle.zd_model.specs.Image.{Image, IsImage, Same, block_at, set_block}
 use Rattle.zd_model.specs.declared.metadata.Super.{Super}
 use Rattle.zd_model.proofs.SameLaws.{same_block}
-use Rattle.zd_disk.specs.Told.{Both, WhereTold}
-use Rattle.zd_disk.proofs.ToldLaws.{Both-new, IfSome-at}
-use Rattle.zd_format.specs.Sets.{IsFreshBlock, HasWritten, HasBothSets, IsPlaced, placed}
+use Rattle.zd_disk.specs.Told.{WhereTold}
+use Rattle.zd_disk.specs.View.{Turns, View}
+use Rattle.zd_disk.proofs.ViewLaws.{turned_back}
+use Rattle.zd_format.specs.Sets.{IsFreshBlock, HasWritten, HasBothSets, IsFittingSet, placed}
 use Rattle.zd_format.proofs.PlaceLaws.{within_zones}
 use Rattle.zd_format.proofs.SetLaws.{zone_low}
 
@@ -46,7 +47,7 @@ module _ (g : Shape) (head : Super) (shape : IsShape g) (fits : Fits g head.layo
     second = λ k low. written.blocks k low;
   }
 
-  same_set : (old new : Image) → IsImage old → old.geometry ≡ g → Same old new → (h : Super) (f k : ℕ) → IsPlaced g h f → k < h.layout.meta_blocks
+  same_set : (old new : Image) → IsImage old → old.geometry ≡ g → Same old new → (h : Super) (f k : ℕ) → IsFittingSet g h f → k < h.layout.meta_blocks
       → set_block new f k ≡ set_block old f k
   same_set old new image is same h f k set low =
       let zone : f + k / old.geometry.zone_blocks < old.geometry.conv =
@@ -66,20 +67,8 @@ module _ (g : Shape) (head : Super) (shape : IsShape g) (fits : Fits g head.layo
   }
 
   -- after the flush the disk reads so
-  pub told_sets : (old new : Option Image) → ((i : Image) → old ≡ Some i → IsImage i) → WhereTold old (HasWritten g other n head.layout.meta_blocks)
-      → Both old new Same → WhereTold new (HasBothSets g head)
-  told_sets old new images written both image e =
-      let found = Both-new old new Same image both e in
-      same_sets found.0 image (images found.0 found.1) found.2 (both_sets found.0 (written found.0 found.1))
-
-  -- and a stop leaves nothing else
-  pub left_sets : (old new : Option Image) (left : Image → Type 0) → ((i : Image) → old ≡ Some i → IsImage i)
-      → WhereTold old (HasWritten g other n head.layout.meta_blocks) → Both old new Same → IfSome old (λ i. (c : Image) → left c → Same i c)
-      → WhereTold new (λ _. (c : Image) → left c → HasBothSets g head c)
-  left_sets old new left images written both durable image e c h =
-      let found = Both-new old new Same image both e in
-      same_sets found.0 c (images found.0 found.1) (IfSome-at old found.0 _ found.1 durable c h) (both_sets found.0 (written found.0 found.1))
-
-pub on_ok : {T E : Type 0} (r : Result T E) (P : Type 0) → P → OnOk r P
-on_ok (Ok x) P h = h
-on_ok (Err x) P h = tt
+  pub told_sets : {u v : View} → WhereTold u.zones (HasWritten g other n head.layout.meta_blocks)
+      → Turns Same u v → WhereTold v.zones (HasBothSets g head)
+  told_sets {u} {v} written turns image e =
+      let found = turned_back turns image e in
+      same_sets found.0 image (u.shaped found.0 found.1) found.2 (both_sets found.0 (written found.0 found.1))

@@ -1,18 +1,19 @@
 -- A set that is written block by block.
-use Rattle.std.proofs.Common.{◌≡◌, ◌⊎◌, ℕ, ◌+◌, ◌-◌, ◌*◌, ◌/◌, ◌%◌, ◌<◌, ◌≤◌, List, Option, Result, Ok, Err, OnOk, sym, ap, ◌∙◌, subst, arith, inl, inr}
+use Rattle.std.proofs.Common.{◌≡◌, ◌⊎◌, ℕ, ◌+◌, ◌-◌, ◌*◌, ◌/◌, ◌%◌, ◌<◌, ◌≤◌, List, sym, ap, ◌∙◌, subst, arith, inl, inr}
 use Rattle.std.proofs.Math.Nat.{mod-lt}
 use Rattle.std.proofs.lemmas.Bool.{cases_lt}
 use Rattle.zd_base.specs.Geometry.{Shape, IsShape}
 use Rattle.zd_base.specs.Layout.{set_zones}
 use Rattle.zd_model.specs.Image.{Image, set_block}
 use Rattle.zd_model.specs.declared.metadata.Super.{Super}
-use Rattle.zd_disk.specs.Told.{Both, WhereTold}
-use Rattle.zd_disk.proofs.ToldLaws.{Both-new}
-use Rattle.zd_format.specs.Sets.{IsFreshBlock, PutBlocks, HasWritten, IsPlaced, blocks_in, block_in, placed}
+use Rattle.zd_disk.specs.Told.{WhereTold}
+use Rattle.zd_disk.specs.View.{Turns, View}
+use Rattle.zd_disk.proofs.ViewLaws.{turned_back}
+use Rattle.zd_format.specs.Sets.{IsFreshBlock, PutBlocks, HasWritten, IsFittingSet, blocks_in, block_in, placed}
 use Rattle.zd_format.proofs.PlaceLaws.{within_zones, zone_within}
 
 -- a set behind zone 0 begins behind all blocks of the first
-pub behind_first : (g : Shape) (head : Super) (first : ℕ) → IsPlaced g head first → 0 < first → head.layout.meta_blocks ≤ first * g.zone_blocks
+pub behind_first : (g : Shape) (head : Super) (first : ℕ) → IsFittingSet g head first → 0 < first → head.layout.meta_blocks ≤ first * g.zone_blocks
 behind_first g head first set some = by set.start
   where
     by : (first ≡ 0) ⊎ (first ≡ set_zones g head.layout) → head.layout.meta_blocks ≤ first * g.zone_blocks
@@ -24,7 +25,7 @@ behind_first g head first set some = by set.start
 
 -- with each run the set is written further
 pub written_more : (g : Shape) (head : Super) (first b : ℕ) (bytes : List ℕ) (old new : Image)
-    → IsPlaced g head first → ((j : ℕ) → j < blocks_in bytes → IsFreshBlock head (b + j) (block_in bytes j))
+    → IsFittingSet g head first → ((j : ℕ) → j < blocks_in bytes → IsFreshBlock head (b + j) (block_in bytes j))
     → PutBlocks first b bytes old new → HasWritten g head first b old
     → HasWritten g head first (b + blocks_in bytes) new
 written_more g head first b bytes old new set fresh put written = record {
@@ -48,17 +49,17 @@ written_more g head first b bytes old new set fresh put written = record {
         (subst (IsFreshBlock head (b + j)) (sym (put.put j there)) (fresh j there))
 
 -- where it is told
-pub told_more : (g : Shape) (head : Super) (first b c : ℕ) (bytes : List ℕ) (old new : Option Image)
-    → IsPlaced g head first → ((j : ℕ) → j < blocks_in bytes → IsFreshBlock head (b + j) (block_in bytes j))
-    → b + blocks_in bytes ≡ c → Both old new (PutBlocks first b bytes) → WhereTold old (HasWritten g head first b)
-    → WhereTold new (HasWritten g head first c)
-told_more g head first b c bytes old new set fresh end both written image e =
-    let found = Both-new old new (PutBlocks first b bytes) image both e in
+pub told_more : {u v : View} (g : Shape) (head : Super) (first b c : ℕ) (bytes : List ℕ)
+    → IsFittingSet g head first → ((j : ℕ) → j < blocks_in bytes → IsFreshBlock head (b + j) (block_in bytes j))
+    → b + blocks_in bytes ≡ c → Turns (PutBlocks first b bytes) u v → WhereTold u.zones (HasWritten g head first b)
+    → WhereTold v.zones (HasWritten g head first c)
+told_more g head first b c bytes set fresh end turns written image e =
+    let found = turned_back turns image e in
     subst (λ (n : ℕ). HasWritten g head first n image) end
     (written_more g head first b bytes found.0 image set fresh found.2 (written found.0 found.1))
 
 -- a block of a set stands in a conventional zone
-pub zone_low : (g : Shape) (head : Super) (first b : ℕ) → IsPlaced g head first → b < head.layout.meta_blocks → first + b / g.zone_blocks < g.conv
+pub zone_low : (g : Shape) (head : Super) (first b : ℕ) → IsFittingSet g head first → b < head.layout.meta_blocks → first + b / g.zone_blocks < g.conv
 zone_low g head first b set low = by set.start
   where
     by : (first ≡ 0) ⊎ (first ≡ set_zones g head.layout) → first + b / g.zone_blocks < g.conv
@@ -80,11 +81,3 @@ one_within g b n shape one =
     let some : 0 < g.zone_blocks = omega (arith, least) in
     let less = mod-lt b {m = g.zone_blocks} some in
     omega (arith, less, one)
-
--- where a call answers Ok
-pub ok_more : {T E : Type 0} (r : Result T E) (g : Shape) (head : Super) (first b c : ℕ) (bytes : List ℕ) (old new : Option Image)
-    → IsPlaced g head first → ((j : ℕ) → j < blocks_in bytes → IsFreshBlock head (b + j) (block_in bytes j))
-    → b + blocks_in bytes ≡ c → WhereTold old (HasWritten g head first b) → OnOk r (Both old new (PutBlocks first b bytes))
-    → OnOk r (WhereTold new (HasWritten g head first c))
-ok_more (Ok x) g head first b c bytes old new set fresh end written put = told_more g head first b c bytes old new set fresh end put written
-ok_more (Err x) g head first b c bytes old new set fresh end written put = tt

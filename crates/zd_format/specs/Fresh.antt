@@ -1,21 +1,17 @@
 -- A volume that was formatted, and that nobody wrote.
-use Rattle.std.specs.Prelude.{◌≡◌, ℕ, ◌*◌, ◌-◌, ◌^◌, ◌<◌, ◌≤◌, List, ◌++◌, take, codes, replicate}
-use Rattle.std.specs.Prelude.{Option, Some, Result, Err, IsSomeAnd}
+use Rattle.std.specs.Prelude.{◌≡◌, ℕ, ◌*◌, List, ◌++◌, take, codes, replicate}
+use Rattle.std.specs.Prelude.{Option, Some, IsSomeAnd}
 use Rattle.sha1.specs.Sha1.{sha1}
 use Rattle.uuid.specs.Parts.{with_version, with_variant}
 use Rattle.uuid.specs.declared.Version.TheVariants.{Sha1}
 use Rattle.uuid.specs.declared.Variant.TheVariants.{RFC4122}
-use Rattle.zd_base.specs.Faults.{Rose}
 use Rattle.zd_base.specs.Geometry.{Shape}
 use Rattle.zd_base.specs.Layout.{Fits, formatted, set_zones, device_blocks}
 use Rattle.zd_base.specs.declared.layout.Layout.{Layout}
-use Rattle.zd_disk.specs.Told.{WhereTold}
 use Rattle.zd_model.specs.Bytes.{zero_sector}
 use Rattle.zd_model.specs.Image.{Image}
 use Rattle.zd_model.specs.Volume.{IsWellFormed, good_super, first_set, content}
 use Rattle.zd_model.specs.declared.metadata.Super.{Super}
-use Rattle.zd_format.specs.declared.formatting.FormatFault.{FormatFault}
-use Rattle.zd_format.specs.declared.formatting.FormatFault.TheVariants.{Device}
 
 -- the identifier of a volume's one device: that of version 5 for the volume's as name space and the
 -- name `device 0`
@@ -50,11 +46,6 @@ pub record IsFresh
       (first_set (set_zones image.geometry layout) (head_of layout label volume 0))
       ≡ replicate (8 * device_blocks image.geometry layout) zero_sector
 
--- where the disk tells its zones, this holds of each image that a stop may then leave of it
-abbrev pub EachLeft : Option Image → ℕ → (ℕ → Image → Type 0) → (Image → Type 0) → Type 0
-EachLeft zones calls left P = calls < 2 ^ 64 - 1 →
-    WhereTold zones (λ _. (image : Image) → left calls image → P image)
-
 -- the disk tells this geometry, and the layout is the one for so many reserved zones, which fits it
 pub record IsFormatted
     (reserved : ℕ) (g : Shape) (layout : Layout) (told : Option Shape) : Type 0 where
@@ -69,9 +60,3 @@ IsFormattedBy reserved layout told = (g : Shape) × IsFormatted reserved g layou
 -- the disk tells a geometry, which has no room for a volume with so many reserved zones
 abbrev pub IsUnfit : ℕ → Option Shape → Type 0
 IsUnfit reserved told = IsSomeAnd told (λ g. Fits g (formatted g reserved) → ⊥)
-
--- the count of the disk's faults never falls, and rose where a call of the disk decided
-pub record HasDeviceCause {T : Type 0}
-    (before now : ℕ) (result : Result T FormatFault) : Type 0 where
-  pub later : before ≤ now
-  pub device : result ≡ Err Device → Rose before now

@@ -41,17 +41,10 @@ pub record PutBlocks (first b : ℕ) (bytes : List ℕ) (old new : Image) : Type
 
 -- the head with another number of its own
 abbrev pub placed : ℕ → Super → Super
-placed own head = record {
-  generation = head.generation;
-  own = own;
-  layout = head.layout;
-  label = head.label;
-  volume = head.volume;
-  device = head.device;
-}
+placed own head = record head { own = own }
 
 -- the set that begins in zone `first` has this head, and is one of the two that fit
-pub record IsPlaced (g : Shape) (head : Super) (first : ℕ) : Type 0 where
+pub record IsFittingSet (g : Shape) (head : Super) (first : ℕ) : Type 0 where
   pub shape : IsShape g
   pub fits : Fits g head.layout
   pub start : (first ≡ 0) ⊎ (first ≡ set_zones g head.layout)

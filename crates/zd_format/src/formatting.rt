@@ -1,9 +1,8 @@
 //! Formatting a disk.
 
-ghost use Rattle.std.specs.Prelude.{◌≡◌, ◌⊎◌, Err, IfOk, IfSome, Some};
-ghost use Rattle.zd_format.specs.Fresh.{EachLeft, HasDeviceCause, IsFormatted, IsFormattedBy};
-ghost use Rattle.zd_format.specs.Fresh.{IsFresh, IsUnfit};
-ghost use Rattle.zd_disk.specs.Told.{WhereTold};
+ghost use Rattle.std.specs.Prelude.{◌≡◌, ◌⊎◌, Err, IfOk};
+ghost use Rattle.zd_disk.specs.View.{HasFailed, Holds, OnlyReads, Stays};
+ghost use Rattle.zd_format.specs.Fresh.{IsFormatted, IsFormattedBy, IsFresh, IsUnfit};
 
 use crate::head::head_of;
 use crate::runs::zero_run;
@@ -47,17 +46,14 @@ pub fn format_disk<D: ZonedDisk>(
     volume: Uuid,
 ) -> Result<Formatted, FormatFault>
     ensures ok { IfOk result (λ made.
-        WhereTold (D.zones disk.new) (IsFresh reserved label volume made.layout)) }
+        Holds (IsFresh reserved label volume made.layout) (D.view disk.new)) }
     ensures layout { IfOk result (λ made.
-        IsFormatted reserved made.geometry made.layout (D.told disk.new)) }
-    ensures unfit { result ≡ Err FormatFault.Unfit → IsUnfit reserved (D.told disk.new) }
+        IsFormatted reserved made.geometry made.layout (D.view disk.new).told) }
+    ensures unfit { result ≡ Err FormatFault.Unfit → IsUnfit reserved (D.view disk.new).told }
     ensures same { (result ≡ Err FormatFault.Unfit) ⊎ (result ≡ Err FormatFault.Memory) →
-        (D.zones disk.new ≡ D.zones disk.old) × (D.calls disk.new ≡ D.calls disk.old) }
-    ensures told { IfSome (D.told disk.old) (λ g. D.told disk.new ≡ Some g) }
-    ensures durable { IfOk result (λ made.
-        EachLeft (D.zones disk.new) (D.calls disk.new) (D.left disk.new)
-        (IsFresh reserved label volume made.layout)) }
-    ensures cause { HasDeviceCause (D.faults disk.old) (D.faults disk.new) result }
+        OnlyReads (D.view disk.old) (D.view disk.new) }
+    ensures stays { Stays (D.view disk.old) (D.view disk.new) }
+    ensures cause { result ≡ Err FormatFault.Device → HasFailed (D.view disk.old) (D.view disk.new) }
 {
     let Ok(geometry) = disk.geometry() else {
         return Err(FormatFault::Device);
@@ -84,16 +80,13 @@ pub fn format<D: ZonedDisk>(
     volume: Uuid,
 ) -> Result<Layout, FormatFault>
     ensures ok { IfOk result (λ layout.
-        WhereTold (D.zones disk.new) (IsFresh reserved label volume layout)) }
-    ensures layout { IfOk result (λ layout. IsFormattedBy reserved layout (D.told disk.new)) }
-    ensures unfit { result ≡ Err FormatFault.Unfit → IsUnfit reserved (D.told disk.new) }
+        Holds (IsFresh reserved label volume layout) (D.view disk.new)) }
+    ensures layout { IfOk result (λ layout. IsFormattedBy reserved layout (D.view disk.new).told) }
+    ensures unfit { result ≡ Err FormatFault.Unfit → IsUnfit reserved (D.view disk.new).told }
     ensures same { (result ≡ Err FormatFault.Unfit) ⊎ (result ≡ Err FormatFault.Memory) →
-        (D.zones disk.new ≡ D.zones disk.old) × (D.calls disk.new ≡ D.calls disk.old) }
-    ensures told { IfSome (D.told disk.old) (λ g. D.told disk.new ≡ Some g) }
-    ensures durable { IfOk result (λ layout.
-        EachLeft (D.zones disk.new) (D.calls disk.new) (D.left disk.new)
-        (IsFresh reserved label volume layout)) }
-    ensures cause { HasDeviceCause (D.faults disk.old) (D.faults disk.new) result }
+        OnlyReads (D.view disk.old) (D.view disk.new) }
+    ensures stays { Stays (D.view disk.old) (D.view disk.new) }
+    ensures cause { result ≡ Err FormatFault.Device → HasFailed (D.view disk.old) (D.view disk.new) }
 {
     match format_disk(alloc, disk, reserved, label, volume) {
         Ok(made) => Ok(made.layout),

@@ -1,8 +1,7 @@
 //! Runs of blocks of a set, each written by one call of the disk.
 
 ghost use Rattle.std.specs.Prelude.{◌≡◌, ◌+◌, ◌*◌, ◌/◌, ◌%◌, ◌<◌, ◌≤◌, Some, OnOk, IfOk, length};
-ghost use Rattle.zd_base.specs.Faults.{HasCause};
-ghost use Rattle.zd_disk.specs.Told.{Both};
+ghost use Rattle.zd_disk.specs.View.{Fails, Stays, Turns};
 ghost use Rattle.zd_format.specs.Sets.{PutBlocks, blocks_in, zero_blocks};
 
 use std::alloc::{AllocError, Global};
@@ -42,16 +41,16 @@ pub fn write_run<D: ZonedDisk>(
     block: u32,
     bytes: &[u8],
 ) -> Result<(), Failed>
-    requires told { D.told disk.old ≡ Some geometry.now }
+    requires told { (D.view disk.old).told ≡ Some geometry.now }
     requires whole { length bytes.now ≡ 4096 * blocks_in bytes.now }
     requires some { 0 < blocks_in bytes.now }
     requires zone { first + block / geometry.now.zone_blocks < geometry.now.conv }
     requires within { block % geometry.now.zone_blocks + blocks_in bytes.now
         ≤ geometry.now.zone_blocks }
-    ensures ok { OnOk result (Both (D.zones disk.old) (D.zones disk.new)
-        (PutBlocks first block bytes.now)) }
-    ensures told { D.told disk.new ≡ D.told disk.old }
-    ensures cause { HasCause (D.faults disk.old) (D.faults disk.new) result }
+    ensures ok { OnOk result (Turns (PutBlocks first block bytes.now)
+        (D.view disk.old) (D.view disk.new)) }
+    ensures stays { Stays (D.view disk.old) (D.view disk.new) }
+    ensures cause { Fails result (D.view disk.old) (D.view disk.new) }
 {
     let zone_blocks = geometry.zone_blocks();
     let _conv = geometry.conv();

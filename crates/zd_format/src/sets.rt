@@ -1,12 +1,11 @@
 //! Both sets of metadata of a volume that nobody wrote, written in the order of the disk's blocks.
 
 ghost use Rattle.std.specs.Prelude.{◌≡◌, ◌+◌, Some, OnOk};
-ghost use Rattle.zd_base.specs.Faults.{HasCause};
 ghost use Rattle.zd_base.specs.Geometry.{IsShape};
 ghost use Rattle.zd_base.specs.Layout.{Fits};
 ghost use Rattle.zd_disk.specs.Told.{WhereTold};
-ghost use Rattle.zd_format.specs.Fresh.{EachLeft};
-ghost use Rattle.zd_format.specs.Sets.{HasBothSets, HasWritten, IsPlaced, zero_blocks};
+ghost use Rattle.zd_disk.specs.View.{Fails, Holds, Stays};
+ghost use Rattle.zd_format.specs.Sets.{HasBothSets, HasWritten, IsFittingSet, zero_blocks};
 
 use crate::runs::{run_length, write_run};
 use zd_base::{BLOCK, Failed, Geometry};
@@ -16,19 +15,19 @@ use zd_model::Super;
 use zd_super::encode;
 
 /// Writes the super block of the set that begins in zone `first`.
-fn write_super<D: ZonedDisk>(
+fn write_head<D: ZonedDisk>(
     disk: &mut D,
     geometry: &Geometry,
     head: &Super,
     first: u32,
 ) -> Result<(), Failed>
-    requires told { D.told disk.old ≡ Some geometry.now }
-    requires set { IsPlaced geometry.now head.now first }
-    requires zones { WhereTold (D.zones disk.old) (HasWritten geometry.now head.now first 0) }
-    ensures ok { OnOk result (WhereTold (D.zones disk.new)
+    requires told { (D.view disk.old).told ≡ Some geometry.now }
+    requires set { IsFittingSet geometry.now head.now first }
+    requires zones { WhereTold (D.view disk.old).zones (HasWritten geometry.now head.now first 0) }
+    ensures ok { OnOk result (WhereTold (D.view disk.new).zones
         (HasWritten geometry.now head.now first 1)) }
-    ensures told { D.told disk.new ≡ D.told disk.old }
-    ensures cause { HasCause (D.faults disk.old) (D.faults disk.new) result }
+    ensures stays { Stays (D.view disk.old) (D.view disk.new) }
+    ensures cause { Fails result (D.view disk.old) (D.view disk.new) }
 {
     let mut block = [0; BLOCK];
     encode(head, &mut block);
@@ -42,13 +41,13 @@ fn write_map<D: ZonedDisk>(
     head: &Super,
     first: u32,
 ) -> Result<(), Failed>
-    requires told { D.told disk.old ≡ Some geometry.now }
-    requires set { IsPlaced geometry.now head.now first }
-    requires zones { WhereTold (D.zones disk.old) (HasWritten geometry.now head.now first 1) }
-    ensures ok { OnOk result (WhereTold (D.zones disk.new)
+    requires told { (D.view disk.old).told ≡ Some geometry.now }
+    requires set { IsFittingSet geometry.now head.now first }
+    requires zones { WhereTold (D.view disk.old).zones (HasWritten geometry.now head.now first 1) }
+    ensures ok { OnOk result (WhereTold (D.view disk.new).zones
         (HasWritten geometry.now head.now first (1 + head.now.layout.map_blocks))) }
-    ensures told { D.told disk.new ≡ D.told disk.old }
-    ensures cause { HasCause (D.faults disk.old) (D.faults disk.new) result }
+    ensures stays { Stays (D.view disk.old) (D.view disk.new) }
+    ensures cause { Fails result (D.view disk.old) (D.view disk.new) }
 {
     let mut map_block = [0; BLOCK];
     blank(&mut map_block);
@@ -66,15 +65,15 @@ fn write_bitmaps<D: ZonedDisk>(
     first: u32,
     zeros: &[u8],
 ) -> Result<(), Failed>
-    requires told { D.told disk.old ≡ Some geometry.now }
-    requires set { IsPlaced geometry.now head.now first }
+    requires told { (D.view disk.old).told ≡ Some geometry.now }
+    requires set { IsFittingSet geometry.now head.now first }
     requires zeros { zeros.now ≡ zero_blocks 32 }
-    requires zones { WhereTold (D.zones disk.old)
+    requires zones { WhereTold (D.view disk.old).zones
         (HasWritten geometry.now head.now first (1 + head.now.layout.map_blocks)) }
-    ensures ok { OnOk result (WhereTold (D.zones disk.new)
+    ensures ok { OnOk result (WhereTold (D.view disk.new).zones
         (HasWritten geometry.now head.now first head.now.layout.meta_blocks)) }
-    ensures told { D.told disk.new ≡ D.told disk.old }
-    ensures cause { HasCause (D.faults disk.old) (D.faults disk.new) result }
+    ensures stays { Stays (D.view disk.old) (D.view disk.new) }
+    ensures cause { Fails result (D.view disk.old) (D.view disk.new) }
 {
     let end = head.layout.meta_blocks;
     let mut block = 1 + head.layout.map_blocks;
@@ -100,16 +99,16 @@ fn write_set<D: ZonedDisk>(
     first: u32,
     zeros: &[u8],
 ) -> Result<(), Failed>
-    requires told { D.told disk.old ≡ Some geometry.now }
-    requires set { IsPlaced geometry.now head.now first }
+    requires told { (D.view disk.old).told ≡ Some geometry.now }
+    requires set { IsFittingSet geometry.now head.now first }
     requires zeros { zeros.now ≡ zero_blocks 32 }
-    requires zones { WhereTold (D.zones disk.old) (HasWritten geometry.now head.now first 0) }
-    ensures ok { OnOk result (WhereTold (D.zones disk.new)
+    requires zones { WhereTold (D.view disk.old).zones (HasWritten geometry.now head.now first 0) }
+    ensures ok { OnOk result (WhereTold (D.view disk.new).zones
         (HasWritten geometry.now head.now first head.now.layout.meta_blocks)) }
-    ensures told { D.told disk.new ≡ D.told disk.old }
-    ensures cause { HasCause (D.faults disk.old) (D.faults disk.new) result }
+    ensures stays { Stays (D.view disk.old) (D.view disk.new) }
+    ensures cause { Fails result (D.view disk.old) (D.view disk.new) }
 {
-    write_super(disk, geometry, head, first)?;
+    write_head(disk, geometry, head, first)?;
     write_map(disk, geometry, head, first)?;
     write_bitmaps(disk, geometry, head, first, zeros)
 }
@@ -121,16 +120,14 @@ pub fn write_sets<D: ZonedDisk>(
     head: &Super,
     zeros: &[u8],
 ) -> Result<(), Failed>
-    requires told { D.told disk.old ≡ Some geometry.now }
+    requires told { (D.view disk.old).told ≡ Some geometry.now }
     requires fits { Fits geometry.now head.now.layout }
     requires own { head.now.own ≡ 0 }
     requires zeros { zeros.now ≡ zero_blocks 32 }
     ensures shape { IsShape geometry.now }
-    ensures ok { OnOk result (WhereTold (D.zones disk.new) (HasBothSets geometry.now head.now)) }
-    ensures told { D.told disk.new ≡ D.told disk.old }
-    ensures durable { OnOk result (EachLeft (D.zones disk.new) (D.calls disk.new) (D.left disk.new)
-        (HasBothSets geometry.now head.now)) }
-    ensures cause { HasCause (D.faults disk.old) (D.faults disk.new) result }
+    ensures ok { OnOk result (Holds (HasBothSets geometry.now head.now) (D.view disk.new)) }
+    ensures stays { Stays (D.view disk.old) (D.view disk.new) }
+    ensures cause { Fails result (D.view disk.old) (D.view disk.new) }
 {
     let second = head.layout.set_zones(geometry);
     let own = u64::from(second) * u64::from(geometry.zone_blocks());

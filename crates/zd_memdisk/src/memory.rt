@@ -5,14 +5,14 @@ ghost use Rattle.zd_base.specs.Faults.{HasCause};
 ghost use Rattle.zd_base.specs.Geometry.{zone_sectors};
 ghost use Rattle.zd_model.specs.Image.{Image, Same, run_of};
 ghost use Rattle.zd_model.specs.Left.Call.{Flushes};
-ghost use Rattle.zd_disk.specs.Growth.{Grows, Keeps};
+ghost use Rattle.zd_disk.specs.Growth.{Grows, KeepsLeft};
 ghost use Rattle.zd_disk.specs.Steps.{count_of, WriteStep, WriteLeaves, ResetStep, ResetLeaves};
 ghost use Rattle.zd_disk.specs.Told.{next_count, IsSequentialZone, IsInside};
 ghost use Rattle.zd_memdisk.specs.Fails.{CountsCalls, names, all_counted};
 ghost use Rattle.zd_memdisk.specs.Stored.{IsBlank};
-ghost use Rattle.zd_memdisk.specs.Disks.{disk_geometry, disk_image, disk_calls, disk_faults, disk_fails, disk_left};
+ghost use Rattle.zd_memdisk.specs.Disks.{disk_geometry, disk_image, disk_calls, disk_read_calls, disk_faults, disk_fails, disk_left};
 ghost use Rattle.zd_memdisk.specs.Disks.{spare_calls, spare_sectors, HasRoom, UsesRoom, ObeysList, ObeysRoom, CountsFault, IsSameDisk};
-ghost use Rattle.zd_memdisk.specs.Disks.{front_half, DidWrite, DidReset, Notes, IsNew};
+ghost use Rattle.zd_memdisk.specs.Disks.{first_half, CountsWriting, DidWrite, DidReset, Notes, IsNew};
 ghost use Rattle.zd_memdisk.specs.Calls.{write_call, reset_call};
 ghost use Rattle.zd_memdisk.specs.DiskChoices.{ChoicesAreLeft, EachHasChoices, IsStopOf, IsUnused, RefusesStop};
 ghost use Rattle.zd_memdisk.specs.DiskLaws.{disk_agrees, disk_shaped, disk_leaves, disk_reads};
@@ -32,6 +32,7 @@ use zd_disk::ZonedDisk;
 pub struct MemDisk {
     recorded: RecordedStore,
     fails: Vec<Fail>,
+    read_calls: u64,
     faults: u64,
 }
 
@@ -50,9 +51,9 @@ impl MemDisk {
     /// nothing.
     pub fn blank(alloc: Global, geometry: Geometry) -> Result<MemDisk, Memory>
         ensures zones { IfOk result (λ d. IsBlank geometry (disk_image d)) }
-        ensures calls { IfOk result (λ d. disk_calls d ≡ 0) }
         ensures left { IfOk result IsNew }
-        ensures faults { IfOk result (λ d. disk_faults d ≡ 0) }
+        ensures counts { IfOk result (λ d.
+            (disk_calls d ≡ 0) × (disk_read_calls d ≡ 0) × (disk_faults d ≡ 0)) }
         ensures fails { IfOk result (λ d. disk_fails d ≡ []) }
     {
         let Ok(recorded) = RecordedStore::blank(alloc, geometry) else {
@@ -61,6 +62,7 @@ impl MemDisk {
         Ok(MemDisk {
             recorded,
             fails: Vec::new(alloc),
+            read_calls: 0,
             faults: 0,
         })
     }
@@ -73,7 +75,8 @@ impl MemDisk {
     pub fn fail_at(&mut self, fails: Vec<Fail>)
         ensures fails { disk_fails self.new ≡ fails.items }
         ensures nth { CountsCalls fails.items }
-        ensures faults { disk_faults self.new ≡ disk_faults self.old }
+        ensures counts { (disk_read_calls self.new ≡ disk_read_calls self.old)
+            × (disk_faults self.new ≡ disk_faults self.old) }
         ensures same { IsSameDisk self.old self.new }
     {
         self.fails = fails;
@@ -86,7 +89,8 @@ impl MemDisk {
     pub fn reserve(&mut self, calls: usize, sectors: usize) -> Result<(), Memory>
         ensures room { OnOk result ((calls ≤ spare_calls self.new) × (sectors ≤ spare_sectors self.new)) }
         ensures fails { disk_fails self.new ≡ disk_fails self.old }
-        ensures faults { disk_faults self.new ≡ disk_faults self.old }
+        ensures counts { (disk_read_calls self.new ≡ disk_read_calls self.old)
+            × (disk_faults self.new ≡ disk_faults self.old) }
         ensures same { IsSameDisk self.old self.new }
     {
         let Some(bytes) = sectors.checked_mul(SECTOR) else {
@@ -100,6 +104,13 @@ impl MemDisk {
         ensures { result ≡ disk_calls self.now }
     {
         self.recorded.calls()
+    }
+
+    /// How many reading calls have returned, those that failed too: `read` and `report`.
+    pub fn read_calls(&self) -> u64
+        ensures { result ≡ disk_read_calls self.now }
+    {
+        self.read_calls
     }
 
     /// What a stop leaves when `k` writing calls have returned, those that failed too, and the next may be
@@ -127,6 +138,7 @@ impl MemDisk {
         Ok(MemDisk {
             recorded,
             fails: Vec::new(alloc),
+            read_calls: 0,
             faults: 0,
         })
     }
@@ -144,7 +156,8 @@ impl MemDisk {
     fn count(&mut self, call: DeviceCall, zone: Option<ZoneNo>) -> bool
         ensures value { result ≡ names (disk_fails self.old) call zone }
         ensures fails { disk_fails self.new ≡ all_counted (disk_fails self.old) call zone }
-        ensures same { (self.new.recorded ≡ self.old.recorded) × (self.new.faults ≡ self.old.faults) }
+        ensures same { (self.new.recorded ≡ self.old.recorded) × (self.new.faults ≡ self.old.faults)
+            × (self.new.read_calls ≡ self.old.read_calls) }
     {
         count_call(&mut self.fails, call, zone)
     }
@@ -153,7 +166,8 @@ impl MemDisk {
     fn answer(&mut self, named: bool, noted: bool) -> Result<(), Failed>
         ensures value { is_ok result ≡ (noted && not named) }
         ensures cause { CountsFault (disk_faults self.old) (disk_faults self.new) result }
-        ensures same { (self.new.recorded ≡ self.old.recorded) × (self.new.fails ≡ self.old.fails) }
+        ensures same { (self.new.recorded ≡ self.old.recorded) × (self.new.fails ≡ self.old.fails)
+            × (self.new.read_calls ≡ self.old.read_calls) }
     {
         if noted && !named {
             return Ok(());
@@ -165,7 +179,8 @@ impl MemDisk {
     // Counts a call at the list, and answers Failed where that says so.
     fn ask(&mut self, call: DeviceCall, zone: Option<ZoneNo>) -> Result<(), Failed>
         ensures cause { ObeysList call zone self.old self.new result }
-        ensures same { self.new.recorded ≡ self.old.recorded }
+        ensures same { (self.new.recorded ≡ self.old.recorded)
+            × (self.new.read_calls ≡ self.old.read_calls) }
     {
         let named = self.count(call, zone);
         self.answer(named, true)
@@ -173,29 +188,25 @@ impl MemDisk {
 }
 
 impl ZonedDisk for MemDisk {
-    ghost told = { λ d. Some (disk_geometry d) };
-
-    ghost zones = { λ d. Some (disk_image d) };
-
-    ghost calls = { λ d. disk_calls d };
-
-    ghost left = { λ d. disk_left d };
-
-    ghost faults = { λ d. disk_faults d };
-
-    ghost agrees = { disk_agrees };
-
-    ghost shaped = { disk_shaped };
-
-    ghost leaves = { disk_leaves };
-
-    ghost reads = { disk_reads };
+    ghost view = { λ d. record {
+        told = Some (disk_geometry d);
+        zones = Some (disk_image d);
+        calls = disk_calls d;
+        read_calls = disk_read_calls d;
+        left = disk_left d;
+        faults = disk_faults d;
+        agrees = disk_agrees d;
+        shaped = disk_shaped d;
+        leaves = disk_leaves d;
+        reads = disk_reads d;
+    } };
 
     fn geometry(&mut self) -> Result<Geometry, Failed>
         ensures value { IfOk result (λ g. g ≡ disk_geometry self.old) }
         ensures cause { ObeysList DeviceCall.Geometry None self.old self.new result }
+        ensures counted { disk_read_calls self.new ≡ disk_read_calls self.old }
         ensures same { IsSameDisk self.old self.new }
-        ensures left { Keeps (disk_left self.old) (disk_left self.new) }
+        ensures left { KeepsLeft (disk_left self.old) (disk_left self.new) }
     {
         self.ask(DeviceCall::Geometry, None)?;
         Ok(self.recorded.store().geometry())
@@ -206,9 +217,11 @@ impl ZonedDisk for MemDisk {
         ensures value { IfOk result (λ p. p ≡ (disk_image self.old).held zone) }
         ensures within { IfOk result (λ p. p ≤ zone_sectors (disk_geometry self.old)) }
         ensures cause { ObeysList DeviceCall.Report (Some zone) self.old self.new result }
+        ensures counted { disk_read_calls self.new ≡ next_count (disk_read_calls self.old) }
         ensures same { IsSameDisk self.old self.new }
-        ensures left { Keeps (disk_left self.old) (disk_left self.new) }
+        ensures left { KeepsLeft (disk_left self.old) (disk_left self.new) }
     {
+        self.read_calls = self.read_calls.saturating_add(1);
         self.ask(DeviceCall::Report, Some(zone))?;
         Ok(self.recorded.store().pointer(zone))
     }
@@ -222,9 +235,11 @@ impl ZonedDisk for MemDisk {
             ≡ run_of ((disk_image self.old).sector zone) start (count_of into.old)) }
         ensures err { OnErr result (into.new ≡ into.old) }
         ensures cause { ObeysList DeviceCall.Read (Some zone) self.old self.new result }
+        ensures counted { disk_read_calls self.new ≡ next_count (disk_read_calls self.old) }
         ensures same { IsSameDisk self.old self.new }
-        ensures left { Keeps (disk_left self.old) (disk_left self.new) }
+        ensures left { KeepsLeft (disk_left self.old) (disk_left self.new) }
     {
+        self.read_calls = self.read_calls.saturating_add(1);
         self.ask(DeviceCall::Read, Some(zone))?;
         self.recorded.store().read(zone, start, into);
         Ok(())
@@ -240,8 +255,7 @@ impl ZonedDisk for MemDisk {
         ensures history { Notes DeviceCall.Write (Some zone) (count_of bytes.now)
             (write_call zone start bytes.now (count_of bytes.now))
             (write_call zone start bytes.now (count_of bytes.now / 2)) self.old self.new result }
-        ensures told { disk_geometry self.new ≡ disk_geometry self.old }
-        ensures calls { disk_calls self.new ≡ next_count (disk_calls self.old) }
+        ensures counted { CountsWriting self.old self.new }
         ensures left { disk_calls self.new < 2 ^ 64 - 1 →
             Grows (disk_calls self.old) (disk_left self.old) (disk_left self.new)
             (WriteStep (disk_image self.old) zone start bytes.now)
@@ -260,8 +274,7 @@ impl ZonedDisk for MemDisk {
         ensures did { DidReset zone (disk_image self.old) (disk_image self.new) result }
         ensures history { Notes DeviceCall.Reset (Some zone) 0 (reset_call zone true) (reset_call zone false)
             self.old self.new result }
-        ensures told { disk_geometry self.new ≡ disk_geometry self.old }
-        ensures calls { disk_calls self.new ≡ next_count (disk_calls self.old) }
+        ensures counted { CountsWriting self.old self.new }
         ensures left { disk_calls self.new < 2 ^ 64 - 1 →
             Grows (disk_calls self.old) (disk_left self.old) (disk_left self.new)
             (ResetStep zone) (ResetLeaves (disk_image self.new) zone) }
@@ -277,8 +290,7 @@ impl ZonedDisk for MemDisk {
         ensures zones { disk_image self.new ≡ disk_image self.old }
         ensures history { Notes DeviceCall.Flush None 0 (Flushes true) (Flushes false)
             self.old self.new result }
-        ensures told { disk_geometry self.new ≡ disk_geometry self.old }
-        ensures calls { disk_calls self.new ≡ next_count (disk_calls self.old) }
+        ensures counted { CountsWriting self.old self.new }
         ensures left { disk_calls self.new < 2 ^ 64 - 1 →
             Grows (disk_calls self.old) (disk_left self.old) (disk_left self.new) Same Same }
         ensures durable { OnOk result (disk_calls self.new < 2 ^ 64 - 1 → (c : Image)

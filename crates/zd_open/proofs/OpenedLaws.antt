@@ -1,5 +1,5 @@
 -- What opening makes of a disk: the same volume, whose tables serve its content.
-use Rattle.std.proofs.Common.{◌≡◌, ℕ, ◌+◌, ◌*◌, ◌<◌, List, [], Some, None, IsNone, Option, refl, sym, ap, ap₂, ◌∙◌, subst, inl, inr, arith}
+use Rattle.std.proofs.Common.{◌≡◌, ℕ, ◌+◌, ◌*◌, ◌<◌, List, [], Some, IsNone, Option, sym, ap, ap₂, ◌∙◌, subst, inl, inr, arith}
 use Rattle.std.proofs.lemmas.Bool.{cases_lt}
 use Rattle.zd_base.specs.Geometry.{Shape, IsShape, zone_count}
 use Rattle.zd_base.specs.Layout.{Fits, set_zones, used_blocks}
@@ -11,14 +11,13 @@ use Rattle.zd_model.specs.Volume.{Chosen, IsWellFormed, chosen, good_super, has_
 use Rattle.zd_model.specs.declared.metadata.Super.{Super}
 use Rattle.zd_model.proofs.SameLaws.{chosen_first, chosen_of_same, image_at, same_block}
 use Rattle.zd_model.proofs.ContentLaws.{content_of_same, same_back, tables_of_same, well_formed_of_same}
-use Rattle.zd_disk.specs.Told.{Both}
 use Rattle.zd_sets.specs.Blocks.{AreBlocks}
-use Rattle.zd_sets.specs.Choice.{IsChoice, IsMisplaced, IsPlaced, chosen_of}
+use Rattle.zd_sets.specs.Choice.{IsChoice, IsMisplaced, IsPlacedChoice, chosen_of}
 use Rattle.zd_sets.specs.Equal.{InSet, IsMadeEqual, OnlyAt}
 use Rattle.zd_sets.specs.Kept.{KeepsVolume}
 use Rattle.zd_sets.specs.declared.choice.Chosen.{Chosen as Choice}
 use Rattle.zd_sets.proofs.VolumeLaws.{served_same}
-use Rattle.zd_open.specs.Examined.{Explains, IsExamined, IsPlacedSet}
+use Rattle.zd_open.specs.Examined.{ExplainsRefusal, IsExamined, IsPlacedSet}
 use Rattle.zd_open.specs.Opened.{IsOpened, IsSameVolume}
 use Rattle.zd_open.specs.Tables.{tables_in}
 use Rattle.zd_open.specs.declared.examining.OpenFault.{OpenFault}
@@ -102,7 +101,7 @@ module _ (old new : Image) (image : IsImage old) (shape : IsShape old.geometry) 
       ap₂ (λ (g : Shape) (t : Tables). bad_bit g new.held t) same.geometry (same_tables c placed)
       ∙ same_bits old.geometry (tables_of old c) new.held old.held (λ z above below. (same.zones z).held)
 
-  pub explains_same : (fault : OpenFault) → Explains fault new → Explains fault old
+  pub explains_same : (fault : OpenFault) → ExplainsRefusal fault new → ExplainsRefusal fault old
   explains_same NoSuperBlock none = sym same_chosen ∙ none
   explains_same BadLayout why =
       let is = sym same_chosen ∙ why.1 in
@@ -123,10 +122,10 @@ module _ (g : Shape) (c : Choice) (bytes reported : List ℕ) (old middle new : 
       let middle_shape = subst IsShape (sym same.geometry) shape in
       well_formed_of_same middle old (chosen_of c) second middle_shape (same_back old middle same) e.well_formed
 
-  pub opened : IsPlaced g c → IsMadeEqual g c (used_blocks g c.head.layout) middle new → IsOpened g c bytes reported old new
+  pub opened : IsPlacedChoice g c → IsMadeEqual g c (used_blocks g c.head.layout) middle new → IsOpened g c bytes reported old new
   opened placed equal =
       let middle_shape = subst IsShape (sym same.geometry) shape in
-      let here = subst (λ (h : Shape). IsPlaced h c) e.geometry placed in
+      let here = subst (λ (h : Shape). IsPlacedChoice h c) e.geometry placed in
       let only = subst (λ (h : Shape). OnlyAt (InSet h c.other 0 (used_blocks h c.head.layout)) middle new) e.geometry equal.only in
       let count = ap (λ (h : Shape). zone_count h) only.geometry in
       let conv = ap (λ (h : Shape). h.conv) only.geometry in
@@ -157,13 +156,3 @@ module _ (g : Shape) (c : Choice) (bytes reported : List ℕ) (old middle new : 
           same = there.same ∙ content_of_same old middle (chosen_of c) first shape same was_well_formed;
         },
       )
-
--- one call after another, where the disk tells its zones
-pub both_then : (o m n : Option Image) (P Q R : Image → Image → Type 0)
-    → ((i j k : Image) → o ≡ Some i → m ≡ Some j → n ≡ Some k → P i j → Q j k → R i k) → Both o m P → Both m n Q → Both o n R
-both_then None None None P Q R f h k = tt
-both_then None None (Some c) P Q R f h k = absurd k
-both_then None (Some b) n P Q R f h k = absurd h
-both_then (Some a) None n P Q R f h k = absurd h
-both_then (Some a) (Some b) None P Q R f h k = absurd k
-both_then (Some a) (Some b) (Some c) P Q R f h k = f a b c refl refl refl h k

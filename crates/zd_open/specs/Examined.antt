@@ -1,7 +1,6 @@
 -- What an examined disk is found to be.
-use Rattle.std.specs.Prelude.{◌≡◌, ℕ, ◌*◌, ◌<◌, ◌≤◌, List, [], length, slice_index, Some, None, IsNone, Result, Err}
+use Rattle.std.specs.Prelude.{◌≡◌, ℕ, ◌*◌, ◌<◌, ◌≤◌, List, [], length, slice_index, Some, None, IsNone}
 use Rattle.std.specs.Option.{is_some}
-use Rattle.zd_base.specs.Faults.{Rose}
 use Rattle.zd_base.specs.Geometry.{Shape, zone_count}
 use Rattle.zd_base.specs.Layout.{Fits, set_zones, used_blocks}
 use Rattle.zd_base.specs.declared.layout.Layout.{Layout as Sizes}
@@ -10,7 +9,7 @@ use Rattle.zd_model.specs.Image.{Image as Disk}
 use Rattle.zd_model.specs.Tables.{BitsFollowRules, MapFollowsRules}
 use Rattle.zd_model.specs.Volume.{Chosen as Set, IsWellFormed, chosen, good_super, tables_of}
 use Rattle.zd_sets.specs.Blocks.{AreBlocks}
-use Rattle.zd_sets.specs.Choice.{IsMisplaced, IsPlaced, NoMagicBehind, chosen_of}
+use Rattle.zd_sets.specs.Choice.{IsMisplaced, IsPlacedChoice, NoMagicAfter, chosen_of}
 use Rattle.zd_sets.specs.declared.choice.Chosen.{Chosen}
 use Rattle.zd_open.specs.Tables.{entries_in, tables_in}
 use Rattle.zd_open.specs.declared.examining.OpenFault.{OpenFault}
@@ -36,19 +35,19 @@ pub record IsPlacedSet (disk : Disk) (c : Set) : Type 0 where
   pub is_chosen : chosen disk ≡ Some c
   pub layout : Fits disk.geometry c.head.layout
   pub no_other_magic : IsNone (good_super disk 0) →
-      NoMagicBehind disk c.first (set_zones disk.geometry c.head.layout)
+      NoMagicAfter disk c.first (set_zones disk.geometry c.head.layout)
 
 -- why an image is no volume, the first rule that it breaks
-abbrev pub Explains : OpenFault → Disk → Type 0
-Explains NoSuperBlock disk = chosen disk ≡ None
-Explains Layout disk = (c : Set) × (chosen disk ≡ Some c) × IsMisplaced disk c
-Explains (BadMap chunk) disk = (c : Set) × IsPlacedSet disk c
+abbrev pub ExplainsRefusal : OpenFault → Disk → Type 0
+ExplainsRefusal NoSuperBlock disk = chosen disk ≡ None
+ExplainsRefusal Layout disk = (c : Set) × (chosen disk ≡ Some c) × IsMisplaced disk c
+ExplainsRefusal (BadMap chunk) disk = (c : Set) × IsPlacedSet disk c
     × (bad_chunk disk.geometry c.head.layout [] 0 (tables_of disk c).entries ≡ Some chunk)
-Explains (BadBits zone block) disk = (c : Set) × IsPlacedSet disk c
+ExplainsRefusal (BadBits zone block) disk = (c : Set) × IsPlacedSet disk c
     × (bad_chunk disk.geometry c.head.layout [] 0 (tables_of disk c).entries ≡ None)
     × (bad_bit disk.geometry disk.held (tables_of disk c) ≡ Some (zone, block))
-Explains Device disk = Unit {0}
-Explains Memory disk = Unit {0}
+ExplainsRefusal Device disk = Unit {0}
+ExplainsRefusal Memory disk = Unit {0}
 
 -- the tables in the blocks of a set follow the rules of map and bitmaps
 pub record FollowsRules (g : Shape) (l : Sizes) (reported bytes : List ℕ) : Type 0 where
@@ -59,24 +58,19 @@ pub record FollowsRules (g : Shape) (l : Sizes) (reported bytes : List ℕ) : Ty
 -- them, these are the used blocks of the chosen one, there is a pointer for each zone, and the tables
 -- follow the rules.
 pub record IsUsable (g : Shape) (c : Chosen) (bytes reported : List ℕ) : Type 0 where
-  pub placed : IsPlaced g c
+  pub placed : IsPlacedChoice g c
   pub size : length bytes ≡ 4096 * used_blocks g c.head.layout
   pub count : length reported ≡ zone_count g
   pub map : MapFollowsRules g c.head.layout (entries_in c.head.layout bytes)
   pub bits : BitsFollowRules g (slice_index reported) (tables_in g c.head.layout bytes)
 
 -- which rule they break first, where that is the fault
-abbrev pub BreaksRule : Shape → Sizes → List ℕ → List ℕ → OpenFault → Type 0
-BreaksRule g l reported bytes NoSuperBlock = ⊥
-BreaksRule g l reported bytes Layout = ⊥
-BreaksRule g l reported bytes (BadMap chunk) = bad_chunk g l [] 0 (entries_in l bytes) ≡ Some chunk
-BreaksRule g l reported bytes (BadBits zone block) =
+abbrev pub BreaksTableRule : Shape → Sizes → List ℕ → List ℕ → OpenFault → Type 0
+BreaksTableRule g l reported bytes NoSuperBlock = ⊥
+BreaksTableRule g l reported bytes Layout = ⊥
+BreaksTableRule g l reported bytes (BadMap chunk) = bad_chunk g l [] 0 (entries_in l bytes) ≡ Some chunk
+BreaksTableRule g l reported bytes (BadBits zone block) =
     (bad_chunk g l [] 0 (entries_in l bytes) ≡ None)
     × (bad_bit g (slice_index reported) (tables_in g l bytes) ≡ Some (zone, block))
-BreaksRule g l reported bytes Device = ⊥
-BreaksRule g l reported bytes Memory = Unit {0}
-
--- the count of the disk's faults never falls, and rose where a call of the disk decided
-pub record HasDeviceCause {T : Type 0} (before now : ℕ) (result : Result T OpenFault) : Type 0 where
-  pub later : before ≤ now
-  pub device : result ≡ Err Device → Rose before now
+BreaksTableRule g l reported bytes Device = ⊥
+BreaksTableRule g l reported bytes Memory = Unit {0}

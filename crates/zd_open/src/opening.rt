@@ -1,14 +1,12 @@
 //! Opening a disk: examined, and both sets of metadata equal.
 
 ghost use Rattle.std.specs.Prelude.{◌≡◌, ◌+◌, ◌≤◌, Some, Err, IfOk, IfErr, OnOk};
-ghost use Rattle.zd_base.specs.Faults.{HasCause};
 ghost use Rattle.zd_base.specs.Geometry.{IsShape};
-ghost use Rattle.zd_disk.specs.Told.{Both, WhereTold, next_count};
+ghost use Rattle.zd_disk.specs.Told.{WhereTold, next_count};
+ghost use Rattle.zd_disk.specs.View.{Fails, HasFailed, IsDurable, Keeps, MadeOf, Reaches, ReachesBy, Turns};
 ghost use Rattle.zd_model.specs.Image.{Same};
-ghost use Rattle.zd_sets.specs.Calls.{MadeOf};
-ghost use Rattle.zd_sets.specs.Equal.{IsDurable, StopsLeave};
-ghost use Rattle.zd_open.specs.Examined.{Explains, HasDeviceCause, IsUsable};
-ghost use Rattle.zd_open.specs.Opened.{IsFlushed, IsKept, IsOpened, IsRefusal, open_calls, StopsKeep, StopsLeaveOrKeep};
+ghost use Rattle.zd_open.specs.Examined.{ExplainsRefusal, IsUsable};
+ghost use Rattle.zd_open.specs.Opened.{IsFlushed, IsKept, IsLeftOrKept, IsOpened, IsRefusal, KeepsFrom, open_calls};
 
 use crate::{Image, OpenFault, examine};
 use std::alloc::Global;
@@ -18,15 +16,12 @@ use zd_sets::make_equal;
 
 /// Asks for the geometry and flushes, so that a stop leaves what the disk reads as.
 fn settle<D: ZonedDisk>(disk: &mut D) -> Result<Geometry, Failed>
-    ensures told { IfOk result (λ g. D.told disk.new ≡ Some g) }
+    ensures told { IfOk result (λ g. (D.view disk.new).told ≡ Some g) }
     ensures shape { IfOk result IsShape }
-    ensures zones { Both (D.zones disk.old) (D.zones disk.new) Same }
-    ensures calls { D.calls disk.old ≤ D.calls disk.new }
-    ensures counted { OnOk result (D.calls disk.new ≡ next_count (D.calls disk.old)) }
-    ensures left { StopsLeave Same (D.zones disk.old) (D.calls disk.old) (D.left disk.old)
-        (D.calls disk.new) (D.left disk.new) }
-    ensures durable { OnOk result (IsDurable (D.zones disk.new) (D.calls disk.new) (D.left disk.new)) }
-    ensures cause { HasCause (D.faults disk.old) (D.faults disk.new) result }
+    ensures way { Reaches Same (D.view disk.old) (D.view disk.new) }
+    ensures counted { OnOk result ((D.view disk.new).calls ≡ next_count (D.view disk.old).calls) }
+    ensures durable { OnOk result (IsDurable (D.view disk.new)) }
+    ensures cause { Fails result (D.view disk.old) (D.view disk.new) }
 {
     let geometry = disk.geometry()?;
     let _zone_blocks = geometry.zone_blocks();
@@ -49,28 +44,24 @@ fn settle<D: ZonedDisk>(disk: &mut D) -> Result<Geometry, Failed>
 /// `Device`; then, and before the end of the flush, a stop may also leave what it could have left before the
 /// call. After Ok it leaves what the disk reads as.
 pub fn open<D: ZonedDisk>(alloc: Global, disk: &mut D) -> Result<Image, OpenFault>
-    ensures ok { IfOk result (λ v. Both (D.zones disk.old) (D.zones disk.new)
-        (IsOpened v.geometry v.chosen v.blocks v.pointers.items)) }
+    ensures ok { IfOk result (λ v. Turns (IsOpened v.geometry v.chosen v.blocks v.pointers.items)
+        (D.view disk.old) (D.view disk.new)) }
     ensures usable { IfOk result (λ v. IsUsable v.geometry v.chosen v.blocks v.pointers.items) }
-    ensures told { IfOk result (λ v. D.told disk.new ≡ Some v.geometry) }
-    ensures err { IfErr result (λ fault. WhereTold (D.zones disk.old) (Explains fault)) }
-    ensures counted { IfOk result (λ v. MadeOf (D.zones disk.old) (D.calls disk.old) (D.calls disk.new)
-        (open_calls v.chosen)) }
-    ensures kept { Both (D.zones disk.old) (D.zones disk.new) IsKept }
-    ensures refused { IfErr result (λ fault. IsRefusal fault →
-        IsFlushed (D.zones disk.old) (D.zones disk.new) (D.calls disk.old) (D.calls disk.new)) }
+    ensures told { IfOk result (λ v. (D.view disk.new).told ≡ Some v.geometry) }
+    ensures err { IfErr result (λ fault. WhereTold (D.view disk.old).zones (ExplainsRefusal fault)) }
+    ensures counted { IfOk result (λ v. MadeOf (open_calls v.chosen)
+        (D.view disk.old) (D.view disk.new)) }
+    ensures refused { IfErr result (λ fault. IsRefusal fault → IsFlushed
+        (D.view disk.old) (D.view disk.new)) }
 
-    // What a stop leaves, at each moment of the call.
-    ensures calls { D.calls disk.old ≤ D.calls disk.new }
-    ensures left { StopsLeaveOrKeep (D.zones disk.old) (D.calls disk.old) (D.left disk.old)
-        (D.calls disk.new) (D.left disk.new) }
-    ensures safe { IsDurable (D.zones disk.old) (D.calls disk.old) (D.left disk.old) →
-        StopsKeep (D.zones disk.old) (D.calls disk.old) (D.calls disk.new) (D.left disk.new) }
+    // What the disk reads as, and what a stop leaves, at each moment of the call.
+    ensures way { ReachesBy IsLeftOrKept (D.view disk.old) (D.view disk.new) }
+    ensures kept { Keeps IsKept (D.view disk.old) (D.view disk.new) }
     ensures settled { (result ≡ Err OpenFault.Device → ⊥) →
-        StopsKeep (D.zones disk.old) (D.calls disk.old + 1) (D.calls disk.new) (D.left disk.new) }
-    ensures durable { OnOk result (IsDurable (D.zones disk.new) (D.calls disk.new) (D.left disk.new)) }
+        KeepsFrom ((D.view disk.old).calls + 1) (D.view disk.old) (D.view disk.new) }
+    ensures durable { OnOk result (IsDurable (D.view disk.new)) }
 
-    ensures cause { HasDeviceCause (D.faults disk.old) (D.faults disk.new) result }
+    ensures cause { result ≡ Err OpenFault.Device → HasFailed (D.view disk.old) (D.view disk.new) }
 {
     let Ok(_geometry) = settle(disk) else {
         return Err(OpenFault::Device);

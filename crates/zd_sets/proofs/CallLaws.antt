@@ -9,18 +9,17 @@ use Rattle.std.proofs.lemmas.Slice.Eq.{bytes_eq-Decides}
 use Rattle.zd_base.specs.Geometry.{Shape}
 use Rattle.zd_base.specs.Layout.{used_blocks}
 use Rattle.zd_model.specs.Image.{Image, IsImage, Same, set_block}
-use Rattle.zd_model.specs.Volume.{good_super}
 use Rattle.zd_model.specs.declared.metadata.Super.{Super}
 use Rattle.zd_model.proofs.SameLaws.{same_block, same_map}
-use Rattle.zd_disk.proofs.Views.{View}
-use Rattle.zd_disk.specs.Told.{Both, WhereTold, next_count}
+use Rattle.zd_disk.specs.Told.{WhereTold}
+use Rattle.zd_disk.specs.View.{View, Made, MadeOf, Turns}
+use Rattle.zd_disk.proofs.ViewLaws.{read_as, turned}
 use Rattle.zd_sets.specs.Blocks.{AreBlocks, blocks_of}
-use Rattle.zd_sets.specs.Calls.{Made, MadeOf, clear_calls, differ, differing, differing_from, equal_calls, passing}
-use Rattle.zd_sets.specs.Choice.{IsPlaced}
+use Rattle.zd_sets.specs.Calls.{clear_calls, differ, differing, differing_from, equal_calls, passing}
+use Rattle.zd_sets.specs.Choice.{IsChoice, IsPlacedChoice}
 use Rattle.zd_sets.specs.declared.choice.Chosen.{Chosen as Choice}
-use Rattle.zd_sets.specs.Equal.{HasBlocks, InSet, IsCleared}
+use Rattle.zd_sets.specs.Equal.{HasSetBlocks, InSet, IsCleared}
 use Rattle.zd_sets.proofs.EqualLaws.{here_inside, same_good, same_only, set_still, there_inside}
-use Rattle.zd_sets.proofs.StopLaws.{Both-first}
 use Rattle.zd_sets.proofs.WayLaws.{outside}
 
 sum_more : (f : ℕ → ℕ) (n k : ℕ) → 1 + n ≡ k → sum_by f (range_with_len 1 (n + 1)) ≡ sum_by f (range_with_len 1 n) + f k
@@ -54,41 +53,31 @@ differ_by there block other = elim (cases_Bool (bytes_eq there block)) [
   | inr e ↦ ap {B = ℕ} (λ (b : Bool). cond (not b) 1 0) e
 ]
 
--- one writing call is one more, while the count is below its end
-pub made_one : (a b : ℕ) → b ≡ next_count a → Made a b 1
-made_one a b e low = omega (arith, e, low)
-
-pub made_two : (a b c : ℕ) → b ≡ next_count a → c ≡ next_count b → Made a c 2
-made_two a b c e f low = omega (arith, e, f, low)
-
--- so many writing calls were made between two moments, counted by what the disk first reads as
-abbrev pub MadeTo : View → View → (Image → ℕ) → Type 0
-MadeTo v w number = MadeOf v.zones v.calls w.calls number
-
 -- one block more
-pub counted_more : (g : Shape) (first i : ℕ) (bytes : List ℕ) (u v w : View)
+pub counted_more : {g : Shape} {first i : ℕ} {bytes : List ℕ} {u v w : View}
     → 0 < g.zone_blocks → 1 ≤ i → first + i / g.zone_blocks < g.conv → v.calls ≤ w.calls
-    → ((image : Image) → u.zones ≡ Some image → image.geometry ≡ g)
-    → Both u.zones v.zones (HasBlocks g first 1 i bytes)
-    → MadeTo u v (differing_from bytes first i)
-    → MadeTo v w (λ image. cond (differ (set_block image first i) (blocks_of bytes i 1)) 1 0)
-    → MadeTo u w (differing_from bytes first (i + 1))
-counted_more g first i bytes u v w some front inside later shape copied before here low image e =
-    let there = Both-first u.zones v.zones (HasBlocks g first 1 i bytes) image copied e in
-    let same = set_still g first (InSet g first 1 i) image there.0 some (shape image e) there.2.only i inside
-    (outside g first 1 i i some (inr (omega arith))) in
-    let one = ap {B = ℕ} (λ (block : List ℕ). cond (differ block (blocks_of bytes i 1)) 1 0) same in
-    let more = passing_more (λ k. differ (set_block image first k) (blocks_of bytes k 1)) i front in
-    omega (arith, before (omega (arith, low, later)) image e, here low there.0 there.1, one, more)
+    → u.told ≡ Some g → Turns (HasSetBlocks g first 1 i bytes) u v → MadeOf (differing_from bytes first i) u v
+    → MadeOf (λ image. cond (differ (set_block image first i) (blocks_of bytes i 1)) 1 0) v w
+    → MadeOf (differing_from bytes first (i + 1)) u w
+counted_more {g} {first} {i} {bytes} {u} {v} {w} some front inside later told copied before here = record {
+  number_is = λ low image e. (
+      let there = turned copied image e in
+      let same = set_still g first (InSet g first 1 i) image there.0 some (read_as {v = u} told image e).geometry there.2.only i inside
+      (outside g first 1 i i some (inr (omega arith))) in
+      let one = ap {B = ℕ} (λ (block : List ℕ). cond (differ block (blocks_of bytes i 1)) 1 0) same in
+      let more = passing_more (λ k. differ (set_block image first k) (blocks_of bytes k 1)) i front in
+      omega (arith, before.number_is (omega (arith, low, later)) image e, here.number_is low there.0 there.1, one, more));
+}
 
 -- and a flush
-pub counted_flush : (bytes : List ℕ) (first end : ℕ) (u v w : View) → w.calls ≡ next_count v.calls
-    → MadeTo u v (differing_from bytes first end)
-    → MadeTo u w (λ image. differing_from bytes first end image + 1)
-counted_flush bytes first end u v w one before low image e =
-    omega (arith, before (omega (arith, low, one)) image e, one, low)
+pub counted_flush : {number : Image → ℕ} {u v w : View} → v.calls ≤ w.calls → MadeOf number u v → Made 1 v w
+    → MadeOf (λ image. number image + 1) u w
+counted_flush {number} {u} {v} {w} order before one = record {
+  number_is = λ low image e.
+      omega (arith, before.number_is (omega (arith, low, order)) image e, one.number_is low, low, order);
+}
 
-module _ (g : Shape) (choice : Choice) (placed : IsPlaced g choice) (some : 0 < g.zone_blocks) where
+module _ (g : Shape) (choice : Choice) (placed : IsPlacedChoice g choice) (some : 0 < g.zone_blocks) where
   -- the blocks behind the first, as they read once the super block is cleared
   differing_cleared : (bytes : List ℕ) (a b : Image) → a.geometry ≡ g → AreBlocks a choice.zone (used_blocks g choice.head.layout) bytes
       → IsCleared g choice.other choice.other_good a b
@@ -101,19 +90,19 @@ module _ (g : Shape) (choice : Choice) (placed : IsPlaced g choice) (some : 0 < 
       (blocks.each k high))
 
   -- the three steps, one after another
-  pub counted_equal : (bytes : List ℕ) (s t u v : View) → t.calls ≤ u.calls → u.calls ≤ v.calls
-      → ((image : Image) → s.zones ≡ Some image → image.geometry ≡ g)
-      → WhereTold s.zones (λ image. choice.other_good ≡ is_some (good_super image choice.other))
+  pub counted_equal : {bytes : List ℕ} {s t u v : View} → s.told ≡ Some g → t.calls ≤ u.calls → u.calls ≤ v.calls
+      → WhereTold s.zones (IsChoice choice)
       → WhereTold s.zones (λ image. AreBlocks image choice.zone (used_blocks g choice.head.layout) bytes)
-      → Both s.zones t.zones (IsCleared g choice.other choice.other_good)
-      → Made s.calls t.calls (clear_calls choice.other_good)
-      → MadeTo t u (λ image. differing_from bytes choice.other (used_blocks g choice.head.layout) image + 1)
-      → Made u.calls v.calls 2 → MadeTo s v (equal_calls choice (used_blocks g choice.head.layout))
-  counted_equal bytes s t u v later last shape good blocks cleared one two three low image e =
-      let there = Both-first s.zones t.zones (IsCleared g choice.other choice.other_good) image cleared e in
-      let same = differing_cleared bytes image there.0 (shape image e) (blocks image e) there.2 in
-      let clear = ap clear_calls (good image e) in
-      omega (arith, one (omega (arith, low, later, last)), two (omega (arith, low, last)) there.0 there.1, three low, same, clear)
+      → Turns (IsCleared g choice.other choice.other_good) s t → Made (clear_calls choice.other_good) s t
+      → MadeOf (λ image. differing_from bytes choice.other (used_blocks g choice.head.layout) image + 1) t u
+      → Made 2 u v → MadeOf (equal_calls choice (used_blocks g choice.head.layout)) s v
+  counted_equal {bytes} {s} {t} {u} {v} told later last chosen blocks cleared one two three = record {
+    number_is = λ low image e. (
+        let there = turned cleared image e in
+        let same = differing_cleared bytes image there.0 (read_as {v = s} told image e).geometry (blocks image e) there.2 in
+        let clear = ap clear_calls (chosen image e).other_good in
+        omega (arith, one.number_is (omega (arith, low, later, last)), two.number_is (omega (arith, low, last)) there.0 there.1, three.number_is low, same, clear));
+  }
 
   -- an image that holds the same needs as many
   pub equal_calls_same : (a b : Image) → a.geometry ≡ g → IsImage a → Same a b

@@ -1,5 +1,5 @@
 -- Steps by which a set becomes equal to another, one after another.
-use Rattle.std.proofs.Common.{◌≡◌, ◌≢◌, Option, Some, None, Result, Ok, Err, OnOk, ℕ, ◌+◌, ◌*◌, ◌/◌, ◌%◌, ◌^◌, ◌-◌, IfSome, ◌<◌, ◌≤◌, List, ◌++◌, length, take, is_some, inl, inr, Bool, true, false, cond, replicate, refl, sym, ap, ap₂, ◌∙◌, subst, arith}
+use Rattle.std.proofs.Common.{◌≡◌, ◌≢◌, Option, Some, None, Result, Ok, Err, OnOk, ℕ, ◌+◌, ◌*◌, ◌/◌, ◌%◌, ◌<◌, ◌≤◌, List, ◌++◌, length, take, is_some, inl, inr, Bool, true, false, cond, replicate, refl, sym, ap, ap₂, ◌∙◌, subst, arith}
 use Rattle.std.proofs.lemmas.Bool.{cases_eq, cases_lt, eq-eqb}
 use Rattle.std.proofs.lemmas.List.{length-replicate, take_all}
 use Rattle.std.proofs.Math.Seq.{take-append_seam}
@@ -17,15 +17,11 @@ use Rattle.zd_model.proofs.Decoded.{decodes}
 use Rattle.zd_model.proofs.EventLaws.{SameZone-refl, SameZone-trans}
 use Rattle.zd_model.proofs.SuperSpelling.{spells}
 use Rattle.zd_model.proofs.SameLaws.{same_block, same_run}
-use Rattle.zd_disk.proofs.SameSteps.{Same-back}
-use Rattle.zd_disk.proofs.Views.{View}
-use Rattle.zd_disk.proofs.ToldLaws.{Both-new, IfSome-at}
 use Rattle.zd_disk.specs.Steps.{Wrote, count_of, piece}
-use Rattle.zd_disk.specs.Told.{Both}
 use Rattle.zd_sets.specs.Blocks.{AreBlocks, blocks_of}
-use Rattle.zd_sets.specs.Choice.{IsPlaced}
+use Rattle.zd_sets.specs.Choice.{IsPlacedChoice}
 use Rattle.zd_sets.specs.declared.choice.Chosen.{Chosen as Choice}
-use Rattle.zd_sets.specs.Equal.{HasBlock, HasBlocks, HasSuper, InSet, IsCleared, IsDurable, IsMadeEqual, IsReady, OnlyAt, head_at}
+use Rattle.zd_sets.specs.Equal.{HasBlock, HasSetBlocks, HasSuper, InSet, IsCleared, IsMadeEqual, IsReady, OnlyAt, head_at}
 use Rattle.zd_sets.specs.Writes.{WroteBlock}
 
 pub only_same : (P : ℕ → ℕ → Type 0) (a : Image) → OnlyAt P a a
@@ -89,20 +85,6 @@ module _ (old new : Image) (image : IsImage old) (zone x n : ℕ) (bytes : List 
     ];
   }
 
--- where both are told
-pub Both-same : (o : Option Image) (P : Image → Image → Type 0) → ((i : Image) → o ≡ Some i → P i i) → Both o o P
-Both-same None P f = tt
-Both-same (Some i) P f = f i refl
-
-pub Both-then : (o m n : Option Image) (P Q R : Image → Image → Type 0)
-    → ((i j k : Image) → o ≡ Some i → m ≡ Some j → P i j → Q j k → R i k) → Both o m P → Both m n Q → Both o n R
-Both-then None None None P Q R f h k = tt
-Both-then None None (Some c) P Q R f h k = absurd k
-Both-then None (Some b) n P Q R f h k = absurd h
-Both-then (Some a) None n P Q R f h k = absurd h
-Both-then (Some a) (Some b) None P Q R f h k = absurd k
-Both-then (Some a) (Some b) (Some c) P Q R f h k = f a b c refl refl h k
-
 -- blocks of a set at one place are one
 pub same_place : (n k i : ℕ) → 0 < n → k / n ≡ i / n → k % n ≡ i % n → k ≡ i
 same_place n k i some quotient rest = let e = ap (λ (q : ℕ). n * q) quotient in omega arith
@@ -130,8 +112,8 @@ module _ (g : Shape) (first : ℕ) (some : 0 < g.zone_blocks) where
   -- one block more is copied
   pub copied_more : (from i : ℕ) (bytes : List ℕ) (a b c : Image) → a.geometry ≡ g → from ≤ i
       → ((k : ℕ) → k < i → first + k / g.zone_blocks < g.conv)
-      → HasBlocks g first from i bytes a b → HasBlock g first i (blocks_of bytes i 1) b c
-      → HasBlocks g first from (i + 1) bytes a c
+      → HasSetBlocks g first from i bytes a b → HasBlock g first i (blocks_of bytes i 1) b c
+      → HasSetBlocks g first from (i + 1) bytes a c
   copied_more from i bytes a b c shape low inside h k = record {
     only = only_then (InSet g first from (i + 1)) a b c
         (only_more (InSet g first from i) (InSet g first from (i + 1)) a b (λ z x p. (p.0, p.1, omega (arith, p.2), p.3, p.4)) h.only)
@@ -157,7 +139,7 @@ wrote_has g first i block old new shape image some inside size w =
       block_is = ap (λ (s : Shape). block_at new (first + i / s.zone_blocks) (i % s.zone_blocks)) (w.wrote.geometry ∙ shape) ∙ w.put;
     }
 
-pub copied_none : (g : Shape) (first from : ℕ) (bytes : List ℕ) (a : Image) → HasBlocks g first from from bytes a a
+pub copied_none : (g : Shape) (first from : ℕ) (bytes : List ℕ) (a : Image) → HasSetBlocks g first from from bytes a a
 copied_none g first from bytes a = record {
   only = only_same (InSet g first from from) a;
   each = λ k above below. absurd (omega arith);
@@ -174,7 +156,7 @@ module _ (g : Shape) (first : ℕ) (some : 0 < g.zone_blocks) (a b c : Image) (s
   still here k conv = set_still g first (λ _ _. ⊥) b c some here (same_only (λ _ _. ⊥) b c image same) k conv (λ none. none)
 
   pub blocks_stay : (from end : ℕ) (bytes : List ℕ) → ((k : ℕ) → k < end → first + k / g.zone_blocks < g.conv)
-      → HasBlocks g first from end bytes a b → HasBlocks g first from end bytes a c
+      → HasSetBlocks g first from end bytes a b → HasSetBlocks g first from end bytes a c
   blocks_stay from end bytes inside h = record {
     only = only_then (InSet g first from end) a b c h.only (same_only (InSet g first from end) b c image same);
     each = λ k above below. still (h.only.geometry ∙ shape) k (inside k below) ∙ h.each k above below;
@@ -263,7 +245,7 @@ in_zones g l fits some k low = elim (cases_lt (k / g.zone_blocks) (set_zones g l
   | inr past ↦ absurd (let most = fits.set in let bits = fits.bitmaps in omega (arith, mul-le-mul_left g.zone_blocks past))
 ]
 
-module _ (g : Shape) (choice : Choice) (bytes : List ℕ) (placed : IsPlaced g choice) (some : 0 < g.zone_blocks) where
+module _ (g : Shape) (choice : Choice) (bytes : List ℕ) (placed : IsPlacedChoice g choice) (some : 0 < g.zone_blocks) where
   -- no block of the chosen set stands in the other one
   sets_apart : (from k : ℕ) → k < used_blocks g choice.head.layout
       → InSet g choice.other from (used_blocks g choice.head.layout) (choice.zone + k / g.zone_blocks) (k % g.zone_blocks) → ⊥
@@ -296,7 +278,7 @@ module _ (g : Shape) (choice : Choice) (bytes : List ℕ) (placed : IsPlaced g c
   -- the three steps, one after another
   pub made_equal : (a b c d : Image) → a.geometry ≡ g → AreBlocks a choice.zone (used_blocks g choice.head.layout) bytes
       → IsCleared g choice.other choice.other_good a b
-      → HasBlocks g choice.other 1 (used_blocks g choice.head.layout) bytes b c
+      → HasSetBlocks g choice.other 1 (used_blocks g choice.head.layout) bytes b c
       → HasSuper g choice.other choice.head c d → IsMadeEqual g choice (used_blocks g choice.head.layout) a d
   made_equal a b c d shape blocks clear copied put =
       let end : ℕ = used_blocks g choice.head.layout in
@@ -318,7 +300,7 @@ module _ (g : Shape) (choice : Choice) (bytes : List ℕ) (placed : IsPlaced g c
   -- after the first two steps the super block may be written
   pub ready : (a b c : Image) → a.geometry ≡ g → AreBlocks a choice.zone (used_blocks g choice.head.layout) bytes
       → choice.other_good ≡ is_some (good_super a choice.other) → IsCleared g choice.other choice.other_good a b
-      → HasBlocks g choice.other 1 (used_blocks g choice.head.layout) bytes b c
+      → HasSetBlocks g choice.other 1 (used_blocks g choice.head.layout) bytes b c
       → IsReady choice (used_blocks g choice.head.layout) c
   ready a b c shape blocks good clear copied =
       let end : ℕ = used_blocks g choice.head.layout in
@@ -352,10 +334,3 @@ module _ (g : Shape) (choice : Choice) (bytes : List ℕ) (placed : IsPlaced g c
         good = λ e. ap (λ (o : Option Super). is_some o) (same_good c d choice.other same.geometry front) ∙ h.good e;
         zeros = λ e. ap (λ (block : List ℕ). take 512 block) front ∙ h.zeros e;
       }
-
--- what a flush makes last is what the disk then reads as
-pub durable_new : (v w : View) → Both v.zones w.zones Same
-    → (w.calls < 2 ^ 64 - 1 → IfSome v.zones (λ i. (c : Image) → w.left w.calls c → Same i c)) → IsDurable w.zones w.calls w.left
-durable_new v w both last low image e other can =
-    let from = Both-new v.zones w.zones Same image both e in
-    Same-back from.0 image other from.2 (IfSome-at v.zones from.0 (λ i. (c : Image) → w.left w.calls c → Same i c) from.1 (last low) other can)

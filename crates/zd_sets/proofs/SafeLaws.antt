@@ -1,48 +1,20 @@
 -- What a stop may leave while the other set is made equal is the same volume.
-use Rattle.std.proofs.Common.{◌≡◌, Some, ℕ, ◌^◌, ◌-◌, ◌<◌, ◌≤◌, List, sym, ◌∙◌, inl, inr, arith}
-use Rattle.std.proofs.lemmas.Bool.{cases_lt}
+use Rattle.std.proofs.Common.{◌≡◌, Some, ◌<◌, ℕ, List, arith}
 use Rattle.zd_base.specs.Geometry.{IsShape, Shape}
 use Rattle.zd_base.specs.Layout.{used_blocks}
 use Rattle.zd_model.specs.Image.{Image, IsImage}
-use Rattle.zd_disk.proofs.ToldLaws.{Some-same}
-use Rattle.zd_disk.proofs.Views.{View}
-use Rattle.zd_disk.specs.Told.{Both, WhereTold}
+use Rattle.zd_disk.specs.Told.{WhereTold}
+use Rattle.zd_disk.specs.View.{View, Holds, IsDurable, Keeps, Reaches, Turns}
+use Rattle.zd_disk.proofs.ViewLaws.{holds_durable, keeps_first, keeps_then, reaches_as, reaches_then, read_as, turned_back, turns_both, turns_then}
 use Rattle.zd_sets.specs.Blocks.{AreBlocks}
-use Rattle.zd_sets.specs.Choice.{IsChoice, IsPlaced, chosen_of}
-use Rattle.zd_sets.specs.Equal.{HasBlocks, InSet, IsDurable, OnlyAt}
+use Rattle.zd_sets.specs.Choice.{IsChoice, IsPlacedChoice, chosen_of}
+use Rattle.zd_sets.specs.Equal.{HasSetBlocks, HasSuper, InSet, IsCleared, IsMadeEqual, IsReady, OnlyAt}
 use Rattle.zd_sets.specs.Kept.{HasPartOfBlocks, HasPartOfSuper, IsPartCleared, KeepsVolume}
 use Rattle.zd_sets.specs.declared.choice.Chosen.{Chosen as Choice}
-use Rattle.zd_sets.proofs.EqualLaws.{only_more}
-use Rattle.zd_sets.proofs.StopLaws.{Both-first, IsWay, StopsTo}
-use Rattle.zd_sets.proofs.WayLaws.{way_cleared, way_copied, way_keeps, way_put}
+use Rattle.zd_sets.proofs.EqualLaws.{made_equal, only_more, only_then, ready, still_ready, there_inside}
+use Rattle.zd_sets.proofs.WayLaws.{blocks_way, clear_way, super_way, way_cleared, way_copied, way_keeps, way_put}
 
--- from one moment to another a stop may leave what became in this way of what the disk first reads as
-abbrev pub StopsFrom : (Image → Image → Type 0) → View → View → Type 0
-StopsFrom R u w = WhereTold u.zones (λ old. (k : ℕ) (i : Image) → u.calls ≤ k → k ≤ w.calls → w.left k i → R old i)
-
-module _ (R : Image → Image → Type 0) (g : Shape) (v w : View) (way : IsWay g R) (told : v.told ≡ Some g)
-    (agrees : (i : Image) → v.zones ≡ Some i → v.told ≡ Some i.geometry) (shaped : (i : Image) → v.zones ≡ Some i → IsImage i)
-    (durable : IsDurable v.zones v.calls v.left) (leaves : StopsTo R v w) (order : v.calls ≤ w.calls) (low : w.calls < 2 ^ 64 - 1) where
-  -- what it leaves came of what it could leave first, which was what the disk reads as
-  pub from_durable : StopsFrom R v w
-  from_durable old e k i above below can =
-      let from = (leaves low old e).each k i above below can in
-      way.then old from.0 i
-      (way.same old from.0 (shaped old e) (Some-same _ _ (sym (agrees old e) ∙ told))
-      (durable (omega (arith, order, low)) old e from.0 from.1)) from.2
-
-  -- and the steps before led to that
-  pub from_then : (P M : Image → Image → Type 0) (u : View) → Both u.zones v.zones M
-      → ((old middle i : Image) → u.zones ≡ Some old → M old middle → (k : ℕ) → k ≤ w.calls → w.left k i → R middle i → P old i)
-      → StopsFrom P u v → StopsFrom P u w
-  from_then P M u both join before old e k i above below can =
-      let there = Both-first u.zones v.zones M old both e in
-      elim (cases_lt k v.calls) [
-        | inl early ↦ before old e k i above (omega (arith, early)) ((leaves low there.0 there.1).earlier k i early can)
-        | inr late ↦ join old there.0 i e there.2 k below can (from_durable there.0 there.1 k i late below can)
-      ]
-
-module _ (g : Shape) (c : Choice) (bytes : List ℕ) (shape : IsShape g) (placed : IsPlaced g c) where
+module _ (g : Shape) (c : Choice) (bytes : List ℕ) (shape : IsShape g) (placed : IsPlacedChoice g c) where
   some : 0 < g.zone_blocks
   some = let size = shape.size.least in omega (arith, size)
 
@@ -72,7 +44,55 @@ module _ (g : Shape) (c : Choice) (bytes : List ℕ) (shape : IsShape g) (placed
         way_keeps g c old i told image is shape placed choice (way_copied g c bytes placed some old b i told blocks clear part)
 
     pub super_keeps : (b d i : Image) → IsImage i → AreBlocks old c.zone (used_blocks g c.head.layout) bytes
-        → IsPartCleared g c.other c.other_good old b → HasBlocks g c.other 1 (used_blocks g c.head.layout) bytes b d
+        → IsPartCleared g c.other c.other_good old b → HasSetBlocks g c.other 1 (used_blocks g c.head.layout) bytes b d
         → HasPartOfSuper g c d i → KeepsVolume (chosen_of c) old i
     super_keeps b d i is blocks clear copied put =
         way_keeps g c old i told image is shape placed choice (way_put g c bytes placed some old b d i told blocks clear copied put)
+
+-- the three steps, one after another, on a disk that reads as the chosen set says
+module _ {g : Shape} {c : Choice} {bytes : List ℕ} (shape : IsShape g) (placed : IsPlacedChoice g c) {s t : View} (told : s.told ≡ Some g)
+    (chosen : WhereTold s.zones (IsChoice c)) (blocks : WhereTold s.zones (λ i. AreBlocks i c.zone (used_blocks g c.head.layout) bytes))
+    (clear : Reaches (IsPartCleared g c.other c.other_good) s t) where
+  pub cleared_only : Reaches (OnlyAt (InSet g c.other 0 (used_blocks g c.head.layout))) s t
+  cleared_only = reaches_as told (λ a b here image after h. clear_only g c bytes shape placed a b h) clear
+
+  pub cleared_kept : Keeps (KeepsVolume (chosen_of c)) s t
+  cleared_kept = keeps_first (clear_way g c.other c.other_good placed.other (some g c bytes shape placed)) told
+      (λ a b is after h. clear_keeps g c bytes shape placed a is.geometry is.image (chosen a is.is) b after h) clear
+
+  module _ {u : View} (cleared : Turns (IsCleared g c.other c.other_good) s t) (durable : IsDurable s → IsDurable t)
+      (copy : Reaches (HasPartOfBlocks g c.other 1 (used_blocks g c.head.layout) bytes) t u) where
+    pub copied_only : Reaches (OnlyAt (InSet g c.other 0 (used_blocks g c.head.layout))) s u
+    copied_only = reaches_then (λ a b h. h)
+        (λ a b d h k. only_then (InSet g c.other 0 (used_blocks g c.head.layout)) a b d h (blocks_only g c bytes shape placed b d k)) cleared_only copy
+
+    pub copied_kept : Keeps (KeepsVolume (chosen_of c)) s u
+    copied_kept = keeps_then
+        (blocks_way g c.other 1 (used_blocks g c.head.layout) bytes (some g c bytes shape placed)
+        (there_inside g c bytes placed (some g c bytes shape placed)))
+        (clear.stays.told g told) told cleared_kept clear.reads clear.order durable
+        (λ a b d is after h k. blocks_keep g c bytes shape placed a is.geometry is.image (chosen a is.is) b d after (blocks a is.is) h k) copy
+
+    module _ (copied : Turns (HasSetBlocks g c.other 1 (used_blocks g c.head.layout) bytes) t u) (last : IsDurable u) where
+      pub copied_ready : Holds (IsReady c (used_blocks g c.head.layout)) u
+      copied_ready = holds_durable (copy.stays.told g (clear.stays.told g told)) last
+          (λ a b here image same h. still_ready g c bytes placed (some g c bytes shape placed) a b here image same h)
+          (λ i e.
+          let from = turned_back (turns_both cleared copied) i e in
+          ready g c bytes placed (some g c bytes shape placed) from.0 from.2.0 i (read_as {v = s} told from.0 from.1).geometry
+          (blocks from.0 from.1) (chosen from.0 from.1).other_good from.2.1 from.2.2)
+
+      module _ {v : View} (put : Reaches (HasPartOfSuper g c) u v) where
+        pub put_only : Reaches (OnlyAt (InSet g c.other 0 (used_blocks g c.head.layout))) s v
+        put_only = reaches_then (λ a b h. h)
+            (λ a b d h k. only_then (InSet g c.other 0 (used_blocks g c.head.layout)) a b d h (super_only g c bytes shape placed b d k)) copied_only put
+
+        pub put_kept : Keeps (KeepsVolume (chosen_of c)) s v
+        put_kept = keeps_then (super_way g c placed.other (some g c bytes shape placed))
+            (copy.stays.told g (clear.stays.told g told)) told copied_kept (turns_both clear.reads copied)
+            (let one = clear.order in let two = copy.order in omega arith) (λ _. last)
+            (λ a b d is after h k. super_keeps g c bytes shape placed a is.geometry is.image (chosen a is.is) h.0 b d after (blocks a is.is) h.1 h.2 k) put
+
+        pub put_equal : Turns (HasSuper g c.other c.head) u v → Turns (IsMadeEqual g c (used_blocks g c.head.layout)) s v
+        put_equal done = turns_then told (λ a b d is middle after h k.
+            made_equal g c bytes placed (some g c bytes shape placed) a h.0 b d is.geometry (blocks a is.is) h.1 h.2 k) (turns_both cleared copied) done

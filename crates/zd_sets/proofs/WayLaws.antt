@@ -1,5 +1,5 @@
 -- Steps of making the other set equal, done or cut short, one after another.
-use Rattle.std.proofs.Common.{◌≡◌, ◌⊎◌, Option, Some, None, Result, Ok, Err, OnOk, OnErr, ℕ, ◌+◌, ◌*◌, ◌/◌, ◌%◌, ◌<◌, ◌≤◌, List, length, replicate, inl, inr, Bool, true, false, refl, sym, ap, ◌∙◌, subst, arith}
+use Rattle.std.proofs.Common.{◌≡◌, ◌⊎◌, Some, None, ℕ, ◌+◌, ◌*◌, ◌/◌, ◌%◌, ◌<◌, ◌≤◌, List, length, replicate, inl, inr, Bool, true, false, refl, sym, ap, ◌∙◌, subst, arith}
 use Rattle.std.proofs.lemmas.Bool.{cases_eq, cases_lt}
 use Rattle.std.proofs.lemmas.List.{length-replicate}
 use Rattle.zd_base.specs.Geometry.{IsShape, Shape}
@@ -9,34 +9,17 @@ use Rattle.zd_model.specs.Super.{HasSizes, block_of}
 use Rattle.zd_model.specs.Volume.{good_super, has_magic}
 use Rattle.zd_model.proofs.SameLaws.{same_block}
 use Rattle.zd_model.proofs.SuperSpelling.{spells}
-use Rattle.zd_disk.specs.Told.{Both}
 use Rattle.zd_sets.specs.Blocks.{AreBlocks, blocks_of}
-use Rattle.zd_sets.specs.Choice.{IsChoice, IsPlaced, chosen_of}
-use Rattle.zd_sets.specs.Equal.{HasBlock, HasBlocks, HasSuper, InSet, IsCleared, IsReady, OnlyAt, head_at}
+use Rattle.zd_sets.specs.Choice.{IsChoice, IsPlacedChoice, chosen_of}
+use Rattle.zd_sets.specs.Equal.{HasBlock, HasSetBlocks, HasSuper, InSet, IsCleared, IsReady, OnlyAt, head_at}
 use Rattle.zd_sets.specs.Kept.{HasMagicOf, HasPartOfBlock, HasPartOfBlocks, HasPartOfSuper, IsOnTheWay, IsPartCleared, KeepsVolume}
 use Rattle.zd_sets.specs.declared.choice.Chosen.{Chosen as Choice}
-use Rattle.zd_sets.proofs.EqualLaws.{Both-then, at_front, first_block, only_more, only_then, same_good, same_only, same_place, set_still, there_inside}
+use Rattle.zd_sets.proofs.EqualLaws.{at_front, first_block, only_more, only_then, same_good, same_only, same_place, set_still, there_inside}
 use Rattle.zd_sets.proofs.KeptLaws.{keeps_volume}
-use Rattle.zd_sets.proofs.MixLaws.{IsMixed, mixed_mark, mixed_over_good, mixed_over_zeros, mixed_zeros, zeros_bad}
-use Rattle.zd_sets.proofs.StopLaws.{IsWay, mixed_only}
-
--- what is so after Ok and after Err is so
-pub either_way : {T E : Type 0} (r : Result T E) (P : Type 0) → OnOk r P → OnErr r P → P
-either_way (Ok x) P h k = h
-either_way (Err e) P h k = k
-
--- what follows of both images, where both are told
-pub Both-told : (o n : Option Image) (P Q : Image → Image → Type 0)
-    → ((i j : Image) → o ≡ Some i → n ≡ Some j → P i j → Q i j) → Both o n P → Both o n Q
-Both-told None None P Q f h = tt
-Both-told None (Some j) P Q f h = absurd h
-Both-told (Some i) None P Q f h = absurd h
-Both-told (Some i) (Some j) P Q f h = f i j refl refl h
-
--- a step after another, with the image between them
-pub Both-two : (o m n : Option Image) (P Q : Image → Image → Type 0) → Both o m P → Both m n Q
-    → Both o n (λ a c. (b : Image) × P a b × Q b c)
-Both-two o m n P Q h k = Both-then o m n P Q (λ a c. (b : Image) × P a b × Q b c) (λ a b c e f p q. (b, p, q)) h k
+use Rattle.zd_sets.proofs.MixLaws.{mixed_mark, mixed_over_good, mixed_over_zeros, mixed_zeros, zeros_bad}
+use Rattle.zd_sets.proofs.StopLaws.{mixed_only}
+use Rattle.zd_sets.specs.Writes.{WrotePart}
+use Rattle.zd_disk.proofs.ViewLaws.{IsWay}
 
 -- a step that is done is one done in part
 pub done_clear : (g : Shape) (zone : ℕ) (good : Bool) (a b : Image) → IsCleared g zone good a b → IsPartCleared g zone good a b
@@ -49,7 +32,7 @@ done_clear g zone good a b h = record { only = h.only; super = by_good good refl
 pub done_block : (g : Shape) (first i : ℕ) (block : List ℕ) (a b : Image) → HasBlock g first i block a b → HasPartOfBlock g first i block a b
 done_block g first i block a b h = record { only = h.only; mark = inr (ap has_magic h.block_is) }
 
-pub done_blocks : (g : Shape) (first from end : ℕ) (bytes : List ℕ) (a b : Image) → HasBlocks g first from end bytes a b
+pub done_blocks : (g : Shape) (first from end : ℕ) (bytes : List ℕ) (a b : Image) → HasSetBlocks g first from end bytes a b
     → HasPartOfBlocks g first from end bytes a b
 done_blocks g first from end bytes a b h = record { only = h.only; marks = λ k above below. inr (ap has_magic (h.each k above below)) }
 
@@ -58,7 +41,7 @@ done_super g c a b h = record { only = h.only; super = inr (inr h.super) }
 
 -- a write that is cut short
 pub part_clear : (g : Shape) (zone : ℕ) (good : Bool) (a b : Image) → a.geometry ≡ g → IsImage a → zone < g.conv
-    → 0 < g.zone_blocks → good ≡ false → IsMixed zone 0 (replicate 512 0) a b → IsPartCleared g zone good a b
+    → 0 < g.zone_blocks → good ≡ false → WrotePart zone 0 (replicate 512 0) a b → IsPartCleared g zone good a b
 part_clear g zone good a b shape image low some bad w =
     let conv = ap (λ (s : Shape). s.conv) shape in
     let blocks = ap (λ (s : Shape). s.zone_blocks) shape in
@@ -78,7 +61,7 @@ set_place g first i a shape = ap (λ (s : Shape). block_at a (first + i / s.zone
 
 pub part_block : (g : Shape) (first i : ℕ) (block : List ℕ) (a b : Image) → a.geometry ≡ g → IsImage a → 0 < g.zone_blocks
     → first + i / g.zone_blocks < g.conv → length block ≡ 4096
-    → IsMixed (first + i / g.zone_blocks) (8 * (i % g.zone_blocks)) block a b → HasPartOfBlock g first i block a b
+    → WrotePart (first + i / g.zone_blocks) (8 * (i % g.zone_blocks)) block a b → HasPartOfBlock g first i block a b
 part_block g first i block a b shape image some inside size w =
     let conv = ap (λ (s : Shape). s.conv) shape in
     let blocks = ap (λ (s : Shape). s.zone_blocks) shape in
@@ -97,7 +80,7 @@ part_block g first i block a b shape image some inside size w =
 
 pub part_super : (g : Shape) (c : Choice) (end : ℕ) (a b : Image) → a.geometry ≡ g → IsImage a → IsImage b → c.other < g.conv
     → 0 < g.zone_blocks → HasSizes (head_at g c.other c.head) → IsReady c end a
-    → IsMixed c.other 0 (block_of (head_at g c.other c.head)) a b → HasPartOfSuper g c a b
+    → WrotePart c.other 0 (block_of (head_at g c.other c.head)) a b → HasPartOfSuper g c a b
 part_super g c end a b shape first second low some sizes ready w = record {
   only = only_more (λ z k. (z ≡ c.other) × (k ≡ 0)) (InSet g c.other 0 1) a b (at_front g c.other)
       (mixed_only a b c.other 0 8 (block_of (head_at g c.other c.head)) first (omega (arith, conv)) (omega (arith, blocks))
@@ -213,7 +196,7 @@ super_way g choice low some = record {
   };
 }
 
-module _ (g : Shape) (choice : Choice) (bytes : List ℕ) (placed : IsPlaced g choice) (some : 0 < g.zone_blocks) where
+module _ (g : Shape) (choice : Choice) (bytes : List ℕ) (placed : IsPlacedChoice g choice) (some : 0 < g.zone_blocks) where
   -- a block behind the super block stays, where that alone changes
   behind_front : (a b : Image) → a.geometry ≡ g → OnlyAt (InSet g choice.other 0 1) a b → (k : ℕ) → 1 ≤ k
       → k < used_blocks g choice.head.layout → set_block b choice.other k ≡ set_block a choice.other k
@@ -265,7 +248,7 @@ module _ (g : Shape) (choice : Choice) (bytes : List ℕ) (placed : IsPlaced g c
 
   pub way_put : (a b c d : Image) → a.geometry ≡ g → AreBlocks a choice.zone (used_blocks g choice.head.layout) bytes
       → IsPartCleared g choice.other choice.other_good a b
-      → HasBlocks g choice.other 1 (used_blocks g choice.head.layout) bytes b c → HasPartOfSuper g choice c d
+      → HasSetBlocks g choice.other 1 (used_blocks g choice.head.layout) bytes b c → HasPartOfSuper g choice c d
       → IsOnTheWay g choice (used_blocks g choice.head.layout) a d
   way_put a b c d shape blocks clear copied put =
       let part = done_blocks g choice.other 1 (used_blocks g choice.head.layout) bytes b c copied in
@@ -292,7 +275,7 @@ module _ (g : Shape) (choice : Choice) (bytes : List ℕ) (placed : IsPlaced g c
 
 -- all the way a volume is kept
 pub way_keeps : (g : Shape) (c : Choice) (old new : Image) → old.geometry ≡ g → IsImage old → IsImage new → IsShape g
-    → IsPlaced g c → IsChoice c old → IsOnTheWay g c (used_blocks g c.head.layout) old new → KeepsVolume (chosen_of c) old new
+    → IsPlacedChoice g c → IsChoice c old → IsOnTheWay g c (used_blocks g c.head.layout) old new → KeepsVolume (chosen_of c) old new
 way_keeps g c old new same first second shape placed choice way =
-    keeps_volume c old new first second (subst IsShape (sym same) shape) (subst (λ (h : Shape). IsPlaced h c) (sym same) placed) choice
+    keeps_volume c old new first second (subst IsShape (sym same) shape) (subst (λ (h : Shape). IsPlacedChoice h c) (sym same) placed) choice
     (subst (λ (h : Shape). IsOnTheWay h c (used_blocks h c.head.layout) old new) (sym same) way)

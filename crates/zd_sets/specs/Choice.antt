@@ -2,7 +2,6 @@
 use Rattle.std.specs.Prelude.{◌≡◌, ◌⊎◌, ℕ, ◌+◌, ◌<◌, ◌≤◌, Bool, true, false, ◌&&◌, nat_lt, ◌==◌}
 use Rattle.std.specs.Prelude.{if◌then◌else◌, Option, Some, None, IsNone, option_and_then, Result, Ok, Err}
 use Rattle.std.specs.Option.{is_some}
-use Rattle.zd_base.specs.Faults.{Rose}
 use Rattle.zd_base.specs.Geometry.{Shape}
 use Rattle.zd_base.specs.Layout.{Fits, set_zones}
 use Rattle.zd_model.specs.Image.{Image, block_at}
@@ -57,20 +56,20 @@ pub record IsFound (g : Shape) (c : Choice) : Type 0 where
   pub other_good : c.other_good ≡ false
 
 -- both sets stand where its layout puts them, and there is room for them
-pub record IsPlaced (g : Shape) (c : Choice) : Type 0 where
+pub record IsPlacedChoice (g : Shape) (c : Choice) : Type 0 where
   pub fits : Fits g c.head.layout
   pub places : StandsAt (set_zones g c.head.layout) c.set c.zone c.other
   pub zone : c.zone < g.conv
   pub other : c.other < g.conv
 
 -- one of the n zones from this one on, behind the first, begins with the magic bytes
-abbrev pub HasMagicBehind : Image → ℕ → ℕ → Type 0
-HasMagicBehind image first n =
+abbrev pub HasMagicAfter : Image → ℕ → ℕ → Type 0
+HasMagicAfter image first n =
     (k : ℕ) × (1 ≤ k) × (k < n) × (has_magic (block_at image (first + k) 0) ≡ true)
 
 -- none does
-abbrev pub NoMagicBehind : Image → ℕ → ℕ → Type 0
-NoMagicBehind image first n =
+abbrev pub NoMagicAfter : Image → ℕ → ℕ → Type 0
+NoMagicAfter image first n =
     (k : ℕ) → 1 ≤ k → k < n → has_magic (block_at image (first + k) 0) ≡ false
 
 -- the chosen set, its layout fits, no other super block can be meant, and the other set's super block
@@ -79,22 +78,17 @@ pub record IsChoice (c : Choice) (image : Image) : Type 0 where
   pub is_chosen : chosen image ≡ Some (chosen_of c)
   pub layout : Fits image.geometry c.head.layout
   pub no_other_magic : IsNone (good_super image 0) →
-      NoMagicBehind image c.zone (set_zones image.geometry c.head.layout)
+      NoMagicAfter image c.zone (set_zones image.geometry c.head.layout)
   pub other_good : c.other_good ≡ is_some (good_super image c.other)
 
 -- the layout doesn't fit, or another super block can be meant
 abbrev pub IsMisplaced : Image → Chosen → Type 0
 IsMisplaced image c = (Fits image.geometry c.head.layout → ⊥)
     ⊎ (IsNone (good_super image 0)
-    × HasMagicBehind image c.first (set_zones image.geometry c.head.layout))
+    × HasMagicAfter image c.first (set_zones image.geometry c.head.layout))
 
 -- why there is no choice, where the disk tells what it reads as
-abbrev pub Explains : SetFault → Image → Type 0
-Explains NoSuperBlock image = chosen image ≡ None
-Explains Layout image = (c : Chosen) × (chosen image ≡ Some c) × IsMisplaced image c
-Explains Device image = Unit {0}
-
--- the count of the disk's faults never falls, and rose where a call of the disk decided
-pub record HasSetCause {T : Type 0} (before now : ℕ) (result : Result T SetFault) : Type 0 where
-  pub later : before ≤ now
-  pub device : result ≡ Err Device → Rose before now
+abbrev pub ExplainsChoice : SetFault → Image → Type 0
+ExplainsChoice NoSuperBlock image = chosen image ≡ None
+ExplainsChoice Layout image = (c : Chosen) × (chosen image ≡ Some c) × IsMisplaced image c
+ExplainsChoice Device image = Unit {0}

@@ -2,12 +2,11 @@
 
 ghost use Rattle.std.specs.Prelude.{◌≡◌, ◌+◌, ◌<◌, ◌≤◌, ℕ, Some, None, IfOk, IfErr, IfSome, MatchBool, true};
 ghost use Rattle.std.specs.Option.{is_some, option_map};
-ghost use Rattle.zd_base.specs.Faults.{HasCause};
 ghost use Rattle.zd_base.specs.Layout.{Fits, set_zones};
-ghost use Rattle.zd_disk.specs.Growth.{Keeps};
 ghost use Rattle.zd_disk.specs.Told.{WhereTold};
+ghost use Rattle.zd_disk.specs.View.{Fails, HasFailed, OnlyReads};
 ghost use Rattle.zd_model.specs.Volume.{good_super, greater_of, scanned};
-ghost use Rattle.zd_sets.specs.Choice.{chosen_of, counting, Explains, HasMagicBehind, HasSetCause, IsChoice, IsFound, IsGreater, IsPlaced, NoMagicBehind, StandsAt};
+ghost use Rattle.zd_sets.specs.Choice.{chosen_of, counting, ExplainsChoice, HasMagicAfter, IsChoice, IsFound, IsGreater, IsPlacedChoice, NoMagicAfter, StandsAt};
 
 use crate::head::{read_good_conventional, read_good_super, read_magic, scan};
 use zd_base::{Failed, Geometry, ZoneNo};
@@ -90,16 +89,13 @@ fn choose_with<D: ZonedDisk>(
     geometry: &Geometry,
     first: Super,
 ) -> Result<Chosen, SetFault>
-    requires told { D.told disk.old ≡ Some geometry.now }
-    requires first { WhereTold (D.zones disk.old) (λ i. good_super i 0 ≡ Some first) }
-    ensures ok { IfOk result (λ c. WhereTold (D.zones disk.old) (IsChoice c)) }
-    ensures placed { IfOk result (IsPlaced geometry.now) }
-    ensures err { IfErr result (λ fault. WhereTold (D.zones disk.old) (Explains fault)) }
-    ensures told { D.told disk.new ≡ D.told disk.old }
-    ensures zones { D.zones disk.new ≡ D.zones disk.old }
-    ensures calls { D.calls disk.new ≡ D.calls disk.old }
-    ensures left { Keeps (D.left disk.old) (D.left disk.new) }
-    ensures cause { HasSetCause (D.faults disk.old) (D.faults disk.new) result }
+    requires told { (D.view disk.old).told ≡ Some geometry.now }
+    requires first { WhereTold (D.view disk.old).zones (λ i. good_super i 0 ≡ Some first) }
+    ensures ok { IfOk result (λ c. WhereTold (D.view disk.old).zones (IsChoice c)) }
+    ensures placed { IfOk result (IsPlacedChoice geometry.now) }
+    ensures err { IfErr result (λ fault. WhereTold (D.view disk.old).zones (ExplainsChoice fault)) }
+    ensures reads { OnlyReads (D.view disk.old) (D.view disk.new) }
+    ensures cause { result ≡ Err SetFault.Device → HasFailed (D.view disk.old) (D.view disk.new) }
 {
     let n = first.layout.set_zones(geometry);
     let second = read_good_conventional(disk, geometry, ZoneNo(n))?;
@@ -112,15 +108,12 @@ fn choose_with<D: ZonedDisk>(
 
 /// The second set, where the scan finds it.
 fn scanned<D: ZonedDisk>(disk: &mut D, geometry: &Geometry) -> Result<Option<Chosen>, Failed>
-    requires told { D.told disk.old ≡ Some geometry.now }
-    ensures value { IfOk result (λ found. WhereTold (D.zones disk.old) (λ i.
+    requires told { (D.view disk.old).told ≡ Some geometry.now }
+    ensures value { IfOk result (λ found. WhereTold (D.view disk.old).zones (λ i.
         scanned i ≡ option_map chosen_of found)) }
     ensures found { IfOk result (λ found. IfSome found (IsFound geometry.now)) }
-    ensures told { D.told disk.new ≡ D.told disk.old }
-    ensures zones { D.zones disk.new ≡ D.zones disk.old }
-    ensures calls { D.calls disk.new ≡ D.calls disk.old }
-    ensures left { Keeps (D.left disk.old) (D.left disk.new) }
-    ensures cause { HasCause (D.faults disk.old) (D.faults disk.new) result }
+    ensures reads { OnlyReads (D.view disk.old) (D.view disk.new) }
+    ensures cause { Fails result (D.view disk.old) (D.view disk.new) }
 {
     let Some(zone) = scan(disk, geometry)? else {
         return Ok(None);
@@ -136,21 +129,18 @@ fn scanned<D: ZonedDisk>(disk: &mut D, geometry: &Geometry) -> Result<Option<Cho
 }
 
 /// Whether one of the `n` zones from `first` on, behind the first, begins with the magic bytes.
-fn has_magic_behind<D: ZonedDisk>(
+fn has_magic_after<D: ZonedDisk>(
     disk: &mut D,
     geometry: &Geometry,
     first: ZoneNo,
     n: u32,
 ) -> Result<bool, Failed>
-    requires told { D.told disk.old ≡ Some geometry.now }
+    requires told { (D.view disk.old).told ≡ Some geometry.now }
     requires inside { first + n ≤ geometry.now.conv }
-    ensures value { IfOk result (λ found. WhereTold (D.zones disk.old) (λ i.
-        MatchBool found (HasMagicBehind i first n) (NoMagicBehind i first n))) }
-    ensures told { D.told disk.new ≡ D.told disk.old }
-    ensures zones { D.zones disk.new ≡ D.zones disk.old }
-    ensures calls { D.calls disk.new ≡ D.calls disk.old }
-    ensures left { Keeps (D.left disk.old) (D.left disk.new) }
-    ensures cause { HasCause (D.faults disk.old) (D.faults disk.new) result }
+    ensures value { IfOk result (λ found. WhereTold (D.view disk.old).zones (λ i.
+        MatchBool found (HasMagicAfter i first n) (NoMagicAfter i first n))) }
+    ensures reads { OnlyReads (D.view disk.old) (D.view disk.new) }
+    ensures cause { Fails result (D.view disk.old) (D.view disk.new) }
 {
     let _conv = geometry.conv();
     for k in 1..n {
@@ -163,16 +153,13 @@ fn has_magic_behind<D: ZonedDisk>(
 
 /// The chosen set, where the super block at zone 0 is bad.
 fn choose_without<D: ZonedDisk>(disk: &mut D, geometry: &Geometry) -> Result<Chosen, SetFault>
-    requires told { D.told disk.old ≡ Some geometry.now }
-    requires first { WhereTold (D.zones disk.old) (λ i. good_super i 0 ≡ None) }
-    ensures ok { IfOk result (λ c. WhereTold (D.zones disk.old) (IsChoice c)) }
-    ensures placed { IfOk result (IsPlaced geometry.now) }
-    ensures err { IfErr result (λ fault. WhereTold (D.zones disk.old) (Explains fault)) }
-    ensures told { D.told disk.new ≡ D.told disk.old }
-    ensures zones { D.zones disk.new ≡ D.zones disk.old }
-    ensures calls { D.calls disk.new ≡ D.calls disk.old }
-    ensures left { Keeps (D.left disk.old) (D.left disk.new) }
-    ensures cause { HasSetCause (D.faults disk.old) (D.faults disk.new) result }
+    requires told { (D.view disk.old).told ≡ Some geometry.now }
+    requires first { WhereTold (D.view disk.old).zones (λ i. good_super i 0 ≡ None) }
+    ensures ok { IfOk result (λ c. WhereTold (D.view disk.old).zones (IsChoice c)) }
+    ensures placed { IfOk result (IsPlacedChoice geometry.now) }
+    ensures err { IfErr result (λ fault. WhereTold (D.view disk.old).zones (ExplainsChoice fault)) }
+    ensures reads { OnlyReads (D.view disk.old) (D.view disk.new) }
+    ensures cause { result ≡ Err SetFault.Device → HasFailed (D.view disk.old) (D.view disk.new) }
 {
     let Some(chosen) = scanned(disk, geometry)? else {
         return Err(SetFault::NoSuperBlock);
@@ -181,7 +168,7 @@ fn choose_without<D: ZonedDisk>(disk: &mut D, geometry: &Geometry) -> Result<Cho
         return Err(SetFault::Layout);
     }
     let n = chosen.head.layout.set_zones(geometry);
-    if has_magic_behind(disk, geometry, chosen.zone, n)? {
+    if has_magic_after(disk, geometry, chosen.zone, n)? {
         return Err(SetFault::Layout);
     }
     Ok(chosen)
@@ -197,15 +184,12 @@ fn choose_without<D: ZonedDisk>(disk: &mut D, geometry: &Geometry) -> Result<Cho
 /// where the super block at zone 0 is bad and another zone of the set begins with the magic bytes.
 /// Nothing is written.
 pub fn choose<D: ZonedDisk>(disk: &mut D, geometry: &Geometry) -> Result<Chosen, SetFault>
-    requires { D.told disk.old ≡ Some geometry.now }
-    ensures ok { IfOk result (λ c. WhereTold (D.zones disk.old) (IsChoice c)) }
-    ensures placed { IfOk result (IsPlaced geometry.now) }
-    ensures err { IfErr result (λ fault. WhereTold (D.zones disk.old) (Explains fault)) }
-    ensures told { D.told disk.new ≡ D.told disk.old }
-    ensures zones { D.zones disk.new ≡ D.zones disk.old }
-    ensures calls { D.calls disk.new ≡ D.calls disk.old }
-    ensures left { Keeps (D.left disk.old) (D.left disk.new) }
-    ensures cause { HasSetCause (D.faults disk.old) (D.faults disk.new) result }
+    requires { (D.view disk.old).told ≡ Some geometry.now }
+    ensures ok { IfOk result (λ c. WhereTold (D.view disk.old).zones (IsChoice c)) }
+    ensures placed { IfOk result (IsPlacedChoice geometry.now) }
+    ensures err { IfErr result (λ fault. WhereTold (D.view disk.old).zones (ExplainsChoice fault)) }
+    ensures reads { OnlyReads (D.view disk.old) (D.view disk.new) }
+    ensures cause { result ≡ Err SetFault.Device → HasFailed (D.view disk.old) (D.view disk.new) }
 {
     let _conv = geometry.conv();
     match read_good_super(disk, geometry, ZoneNo(0))? {

@@ -1,16 +1,16 @@
 //! The other set made equal to the chosen one.
 
 ghost use Rattle.std.specs.Prelude.{◌≡◌, ◌+◌, ◌*◌, ◌/◌, ◌<◌, ◌≤◌, ℕ, Some, IsSomeAnd, OnOk, if◌then◌else◌, length};
-ghost use Rattle.zd_base.specs.Faults.{HasCause};
 ghost use Rattle.zd_base.specs.Layout.{used_blocks};
-ghost use Rattle.zd_disk.specs.Told.{Both, WhereTold};
+ghost use Rattle.zd_disk.specs.Told.{WhereTold};
+ghost use Rattle.zd_disk.specs.View.{Fails, Holds, IsDurable, Keeps, Made, MadeOf, Reaches, Turns};
 ghost use Rattle.zd_model.specs.Image.{set_block};
 ghost use Rattle.zd_model.specs.Super.{HasSizes};
 ghost use Rattle.zd_sets.specs.Blocks.{AreBlocks};
-ghost use Rattle.zd_sets.specs.Calls.{Made, MadeOf, clear_calls, differ, differing_from, equal_calls};
-ghost use Rattle.zd_sets.specs.Choice.{IsChoice, IsPlaced, chosen_of};
-ghost use Rattle.zd_sets.specs.Kept.{HasPartOfBlock, HasPartOfBlocks, HasPartOfSuper, IsPartCleared, KeepsVolume, StopsKeepVolume};
-ghost use Rattle.zd_sets.specs.Equal.{EachLeft, HasBlock, HasBlocks, HasSuper, InSet, IsCleared, IsDurable, IsMadeEqual, IsReady, StopsLeave, StopsLeaveOnly, head_at};
+ghost use Rattle.zd_sets.specs.Calls.{clear_calls, differ, differing_from, equal_calls};
+ghost use Rattle.zd_sets.specs.Choice.{IsChoice, IsPlacedChoice, chosen_of};
+ghost use Rattle.zd_sets.specs.Kept.{HasPartOfBlock, HasPartOfBlocks, HasPartOfSuper, IsPartCleared, KeepsVolume};
+ghost use Rattle.zd_sets.specs.Equal.{HasBlock, HasSetBlocks, HasSuper, InSet, IsCleared, IsMadeEqual, IsReady, OnlyAt, head_at};
 
 use crate::read::read_set_block;
 use crate::{Chosen, SetBlocks, write_block, write_super};
@@ -29,20 +29,17 @@ fn copy_block<D: ZonedDisk>(
     i: u32,
     block: &[u8],
 ) -> Result<(), Failed>
-    requires told { D.told disk.old ≡ Some geometry.now }
+    requires told { (D.view disk.old).told ≡ Some geometry.now }
     requires inside { first + i / geometry.now.zone_blocks < geometry.now.conv }
     requires size { length block.now ≡ 4096 }
-    ensures ok { OnOk result (Both (D.zones disk.old) (D.zones disk.new)
-        (HasBlock geometry.now first i block.now)) }
-    ensures way { Both (D.zones disk.old) (D.zones disk.new)
-        (HasPartOfBlock geometry.now first i block.now) }
-    ensures told { D.told disk.new ≡ D.told disk.old }
-    ensures calls { D.calls disk.old ≤ D.calls disk.new }
-    ensures counted { OnOk result (MadeOf (D.zones disk.old) (D.calls disk.old) (D.calls disk.new)
-        (λ image. if differ (set_block image first i) block.now then 1 else 0)) }
-    ensures left { StopsLeave (HasPartOfBlock geometry.now first i block.now)
-        (D.zones disk.old) (D.calls disk.old) (D.left disk.old) (D.calls disk.new) (D.left disk.new) }
-    ensures cause { HasCause (D.faults disk.old) (D.faults disk.new) result }
+    ensures ok { OnOk result (Turns (HasBlock geometry.now first i block.now)
+        (D.view disk.old) (D.view disk.new)) }
+    ensures way { Reaches (HasPartOfBlock geometry.now first i block.now)
+        (D.view disk.old) (D.view disk.new) }
+    ensures counted { OnOk result (MadeOf
+        (λ image. if differ (set_block image first i) block.now then 1 else 0)
+        (D.view disk.old) (D.view disk.new)) }
+    ensures cause { Fails result (D.view disk.old) (D.view disk.new) }
 {
     let _zone_blocks = geometry.zone_blocks();
     let mut there = [0; BLOCK];
@@ -65,22 +62,18 @@ fn copy_blocks<D: ZonedDisk>(
     end: u32,
     blocks: &SetBlocks,
 ) -> Result<(), Failed>
-    requires told { D.told disk.old ≡ Some geometry.now }
+    requires told { (D.view disk.old).told ≡ Some geometry.now }
     requires some { 1 ≤ end }
     requires inside { (i : ℕ) → i < end → first + i / geometry.now.zone_blocks < geometry.now.conv }
     requires size { length blocks.now ≡ 4096 * end }
-    ensures ok { OnOk result (Both (D.zones disk.old) (D.zones disk.new)
-        (HasBlocks geometry.now first 1 end blocks.now)) }
-    ensures way { Both (D.zones disk.old) (D.zones disk.new)
-        (HasPartOfBlocks geometry.now first 1 end blocks.now) }
-    ensures told { D.told disk.new ≡ D.told disk.old }
-    ensures calls { D.calls disk.old ≤ D.calls disk.new }
-    ensures counted { OnOk result (MadeOf (D.zones disk.old) (D.calls disk.old) (D.calls disk.new)
-        (λ image. differing_from blocks.now first end image + 1)) }
-    ensures left { StopsLeave (HasPartOfBlocks geometry.now first 1 end blocks.now)
-        (D.zones disk.old) (D.calls disk.old) (D.left disk.old) (D.calls disk.new) (D.left disk.new) }
-    ensures durable { OnOk result (IsDurable (D.zones disk.new) (D.calls disk.new) (D.left disk.new)) }
-    ensures cause { HasCause (D.faults disk.old) (D.faults disk.new) result }
+    ensures ok { OnOk result (Turns (HasSetBlocks geometry.now first 1 end blocks.now)
+        (D.view disk.old) (D.view disk.new)) }
+    ensures way { Reaches (HasPartOfBlocks geometry.now first 1 end blocks.now)
+        (D.view disk.old) (D.view disk.new) }
+    ensures counted { OnOk result (MadeOf (λ image. differing_from blocks.now first end image + 1)
+        (D.view disk.old) (D.view disk.new)) }
+    ensures durable { OnOk result (IsDurable (D.view disk.new)) }
+    ensures cause { Fails result (D.view disk.old) (D.view disk.new) }
 {
     let _zone_blocks = geometry.zone_blocks();
     for i in 1..end {
@@ -98,19 +91,15 @@ fn clear_bad<D: ZonedDisk>(
     zone: ZoneNo,
     good: bool,
 ) -> Result<(), Failed>
-    requires told { D.told disk.old ≡ Some geometry.now }
+    requires told { (D.view disk.old).told ≡ Some geometry.now }
     requires zone { zone < geometry.now.conv }
-    ensures ok { OnOk result (Both (D.zones disk.old) (D.zones disk.new)
-        (IsCleared geometry.now zone good)) }
-    ensures way { Both (D.zones disk.old) (D.zones disk.new) (IsPartCleared geometry.now zone good) }
-    ensures told { D.told disk.new ≡ D.told disk.old }
-    ensures calls { D.calls disk.old ≤ D.calls disk.new }
-    ensures counted { OnOk result (Made (D.calls disk.old) (D.calls disk.new) (clear_calls good)) }
-    ensures left { StopsLeave (IsPartCleared geometry.now zone good)
-        (D.zones disk.old) (D.calls disk.old) (D.left disk.old) (D.calls disk.new) (D.left disk.new) }
-    ensures durable { OnOk result (IsDurable (D.zones disk.old) (D.calls disk.old) (D.left disk.old) →
-        IsDurable (D.zones disk.new) (D.calls disk.new) (D.left disk.new)) }
-    ensures cause { HasCause (D.faults disk.old) (D.faults disk.new) result }
+    ensures ok { OnOk result (Turns (IsCleared geometry.now zone good)
+        (D.view disk.old) (D.view disk.new)) }
+    ensures way { Reaches (IsPartCleared geometry.now zone good) (D.view disk.old) (D.view disk.new) }
+    ensures counted { OnOk result (Made (clear_calls good) (D.view disk.old) (D.view disk.new)) }
+    ensures durable { OnOk result (IsDurable (D.view disk.old) →
+        IsDurable (D.view disk.new)) }
+    ensures cause { Fails result (D.view disk.old) (D.view disk.new) }
 {
     let _zone_blocks = geometry.zone_blocks();
     if good {
@@ -135,22 +124,16 @@ fn head_at(geometry: &Geometry, zone: ZoneNo, head: Super) -> Super
 /// one before, on the disk and in each image that a stop may leave. At any answer, and in what a stop
 /// leaves, the super block is as before, or bad as it was, or has the chosen fields.
 fn put_super<D: ZonedDisk>(disk: &mut D, geometry: &Geometry, chosen: &Chosen) -> Result<(), Failed>
-    requires told { D.told disk.old ≡ Some geometry.now }
-    requires placed { IsPlaced geometry.now chosen.now }
-    requires ready { EachLeft (D.zones disk.old) (D.calls disk.old) (D.left disk.old)
-        (IsReady chosen.now (used_blocks geometry.now chosen.now.head.layout)) }
-    requires now { WhereTold (D.zones disk.old)
-        (IsReady chosen.now (used_blocks geometry.now chosen.now.head.layout)) }
-    ensures ok { OnOk result (Both (D.zones disk.old) (D.zones disk.new)
-        (HasSuper geometry.now chosen.now.other chosen.now.head)) }
-    ensures way { Both (D.zones disk.old) (D.zones disk.new) (HasPartOfSuper geometry.now chosen.now) }
-    ensures told { D.told disk.new ≡ D.told disk.old }
-    ensures calls { D.calls disk.old ≤ D.calls disk.new }
-    ensures counted { OnOk result (Made (D.calls disk.old) (D.calls disk.new) 2) }
-    ensures left { StopsLeave (HasPartOfSuper geometry.now chosen.now)
-        (D.zones disk.old) (D.calls disk.old) (D.left disk.old) (D.calls disk.new) (D.left disk.new) }
-    ensures durable { OnOk result (IsDurable (D.zones disk.new) (D.calls disk.new) (D.left disk.new)) }
-    ensures cause { HasCause (D.faults disk.old) (D.faults disk.new) result }
+    requires told { (D.view disk.old).told ≡ Some geometry.now }
+    requires placed { IsPlacedChoice geometry.now chosen.now }
+    requires ready { Holds (IsReady chosen.now (used_blocks geometry.now chosen.now.head.layout))
+        (D.view disk.old) }
+    ensures ok { OnOk result (Turns (HasSuper geometry.now chosen.now.other chosen.now.head)
+        (D.view disk.old) (D.view disk.new)) }
+    ensures way { Reaches (HasPartOfSuper geometry.now chosen.now) (D.view disk.old) (D.view disk.new) }
+    ensures counted { OnOk result (Made 2 (D.view disk.old) (D.view disk.new)) }
+    ensures durable { OnOk result (IsDurable (D.view disk.new)) }
+    ensures cause { Fails result (D.view disk.old) (D.view disk.new) }
 {
     let _zone_blocks = geometry.zone_blocks();
     let head = head_at(geometry, chosen.other, chosen.head);
@@ -177,25 +160,21 @@ pub fn make_equal<D: ZonedDisk>(
     chosen: &Chosen,
     blocks: &SetBlocks,
 ) -> Result<(), Failed>
-    requires told { D.told disk.old ≡ Some geometry.now }
-    requires placed { IsPlaced geometry.now chosen.now }
-    requires chosen { WhereTold (D.zones disk.old) (IsChoice chosen.now) }
+    requires told { (D.view disk.old).told ≡ Some geometry.now }
+    requires placed { IsPlacedChoice geometry.now chosen.now }
+    requires chosen { WhereTold (D.view disk.old).zones (IsChoice chosen.now) }
     requires size { length blocks.now ≡ 4096 * used_blocks geometry.now chosen.now.head.layout }
-    requires blocks { WhereTold (D.zones disk.old) (λ image.
+    requires blocks { WhereTold (D.view disk.old).zones (λ image.
         AreBlocks image chosen.now.zone (used_blocks geometry.now chosen.now.head.layout) blocks.now) }
-    ensures ok { OnOk result (Both (D.zones disk.old) (D.zones disk.new)
-        (IsMadeEqual geometry.now chosen.now (used_blocks geometry.now chosen.now.head.layout))) }
-    ensures kept { Both (D.zones disk.old) (D.zones disk.new) (KeepsVolume (chosen_of chosen.now)) }
-    ensures told { D.told disk.new ≡ D.told disk.old }
-    ensures calls { D.calls disk.old ≤ D.calls disk.new }
-    ensures counted { OnOk result (MadeOf (D.zones disk.old) (D.calls disk.old) (D.calls disk.new)
-        (equal_calls chosen.now (used_blocks geometry.now chosen.now.head.layout))) }
-    ensures left { StopsLeaveOnly (InSet geometry.now chosen.now.other 0 (used_blocks geometry.now chosen.now.head.layout))
-        (D.zones disk.old) (D.calls disk.old) (D.left disk.old) (D.calls disk.new) (D.left disk.new) }
-    ensures safe { StopsKeepVolume (chosen_of chosen.now)
-        (D.zones disk.old) (D.calls disk.old) (D.left disk.old) (D.calls disk.new) (D.left disk.new) }
-    ensures durable { OnOk result (IsDurable (D.zones disk.new) (D.calls disk.new) (D.left disk.new)) }
-    ensures cause { HasCause (D.faults disk.old) (D.faults disk.new) result }
+    ensures ok { OnOk result (Turns (IsMadeEqual geometry.now chosen.now
+        (used_blocks geometry.now chosen.now.head.layout)) (D.view disk.old) (D.view disk.new)) }
+    ensures way { Reaches (OnlyAt (InSet geometry.now chosen.now.other 0
+        (used_blocks geometry.now chosen.now.head.layout))) (D.view disk.old) (D.view disk.new) }
+    ensures kept { Keeps (KeepsVolume (chosen_of chosen.now)) (D.view disk.old) (D.view disk.new) }
+    ensures counted { OnOk result (MadeOf (equal_calls chosen.now
+        (used_blocks geometry.now chosen.now.head.layout)) (D.view disk.old) (D.view disk.new)) }
+    ensures durable { OnOk result (IsDurable (D.view disk.new)) }
+    ensures cause { Fails result (D.view disk.old) (D.view disk.new) }
 {
     let _zone_blocks = geometry.zone_blocks();
     let used = chosen.head.layout.used_blocks(geometry);

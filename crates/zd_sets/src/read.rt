@@ -1,13 +1,12 @@
 //! Blocks of a set, read from a disk.
 
 ghost use Rattle.std.specs.Prelude.{◌≡◌, ◌+◌, ◌-◌, ◌*◌, ◌/◌, ◌%◌, ◌<◌, ◌≤◌, ℕ, Some, Err, IfOk, OnOk, length};
-ghost use Rattle.zd_base.specs.Faults.{HasCause};
 ghost use Rattle.zd_model.specs.Image.{block_at, set_block};
-ghost use Rattle.zd_disk.specs.Growth.{Keeps};
 ghost use Rattle.zd_disk.specs.Told.{WhereTold};
+ghost use Rattle.zd_disk.specs.View.{Fails, HasFailed, OnlyReads};
 ghost use Rattle.zd_base.specs.Layout.{used_blocks};
-ghost use Rattle.zd_sets.specs.Choice.{IsPlaced};
-ghost use Rattle.zd_sets.specs.Blocks.{blocks_of, AreBlocks, HasReadCause};
+ghost use Rattle.zd_sets.specs.Choice.{IsPlacedChoice};
+ghost use Rattle.zd_sets.specs.Blocks.{blocks_of, AreBlocks};
 
 use crate::{Chosen, SetBlocks};
 use std::alloc::Global;
@@ -33,16 +32,13 @@ pub fn read_block<D: ZonedDisk>(
     block: u32,
     into: &mut [u8],
 ) -> Result<(), Failed>
-    requires told { D.told disk.old ≡ Some geometry.now }
+    requires told { (D.view disk.old).told ≡ Some geometry.now }
     requires zone { zone < geometry.now.conv }
     requires block { block < geometry.now.zone_blocks }
     requires size { length into.old ≡ 4096 }
-    ensures value { OnOk result (WhereTold (D.zones disk.old) (λ i. into.new ≡ block_at i zone block)) }
-    ensures told { D.told disk.new ≡ D.told disk.old }
-    ensures zones { D.zones disk.new ≡ D.zones disk.old }
-    ensures calls { D.calls disk.new ≡ D.calls disk.old }
-    ensures left { Keeps (D.left disk.old) (D.left disk.new) }
-    ensures cause { HasCause (D.faults disk.old) (D.faults disk.new) result }
+    ensures value { OnOk result (WhereTold (D.view disk.old).zones (λ i. into.new ≡ block_at i zone block)) }
+    ensures reads { OnlyReads (D.view disk.old) (D.view disk.new) }
+    ensures cause { Fails result (D.view disk.old) (D.view disk.new) }
 {
     let _conv = geometry.conv();
     disk.read(zone, 8 * block, into)
@@ -56,16 +52,13 @@ pub fn read_set_block<D: ZonedDisk>(
     i: u32,
     into: &mut [u8],
 ) -> Result<(), Failed>
-    requires told { D.told disk.old ≡ Some geometry.now }
+    requires told { (D.view disk.old).told ≡ Some geometry.now }
     requires inside { first + i / geometry.now.zone_blocks < geometry.now.conv }
     requires size { length into.old ≡ 4096 }
-    ensures value { OnOk result (WhereTold (D.zones disk.old) (λ image.
+    ensures value { OnOk result (WhereTold (D.view disk.old).zones (λ image.
         into.new ≡ set_block image first i)) }
-    ensures told { D.told disk.new ≡ D.told disk.old }
-    ensures zones { D.zones disk.new ≡ D.zones disk.old }
-    ensures calls { D.calls disk.new ≡ D.calls disk.old }
-    ensures left { Keeps (D.left disk.old) (D.left disk.new) }
-    ensures cause { HasCause (D.faults disk.old) (D.faults disk.new) result }
+    ensures reads { OnlyReads (D.view disk.old) (D.view disk.new) }
+    ensures cause { Fails result (D.view disk.old) (D.view disk.new) }
 {
     let zone_blocks = geometry.zone_blocks();
     let zone = ZoneNo(first.0 + i / zone_blocks);
@@ -80,18 +73,15 @@ fn fill_block<D: ZonedDisk>(
     i: u32,
     into: &mut [u8],
 ) -> Result<(), Failed>
-    requires told { D.told disk.old ≡ Some geometry.now }
+    requires told { (D.view disk.old).told ≡ Some geometry.now }
     requires inside { first + i / geometry.now.zone_blocks < geometry.now.conv }
     requires place { 4096 * (i + 1) ≤ length into.old }
-    ensures value { OnOk result (WhereTold (D.zones disk.old) (λ image.
+    ensures value { OnOk result (WhereTold (D.view disk.old).zones (λ image.
         blocks_of into.new i 1 ≡ set_block image first i)) }
     ensures before { (j : ℕ) → j < i → blocks_of into.new j 1 ≡ blocks_of into.old j 1 }
     ensures size { length into.new ≡ length into.old }
-    ensures told { D.told disk.new ≡ D.told disk.old }
-    ensures zones { D.zones disk.new ≡ D.zones disk.old }
-    ensures calls { D.calls disk.new ≡ D.calls disk.old }
-    ensures left { Keeps (D.left disk.old) (D.left disk.new) }
-    ensures cause { HasCause (D.faults disk.old) (D.faults disk.new) result }
+    ensures reads { OnlyReads (D.view disk.old) (D.view disk.new) }
+    ensures cause { Fails result (D.view disk.old) (D.view disk.new) }
 {
     let start = BLOCK * i as usize;
     read_set_block(disk, geometry, first, i, &mut into[start..start + BLOCK])
@@ -105,16 +95,13 @@ fn fill<D: ZonedDisk>(
     count: u32,
     into: &mut [u8],
 ) -> Result<(), Failed>
-    requires told { D.told disk.old ≡ Some geometry.now }
+    requires told { (D.view disk.old).told ≡ Some geometry.now }
     requires inside { (i : ℕ) → i < count → first + i / geometry.now.zone_blocks < geometry.now.conv }
     requires size { length into.old ≡ 4096 * count }
-    ensures value { OnOk result (WhereTold (D.zones disk.old) (λ image.
+    ensures value { OnOk result (WhereTold (D.view disk.old).zones (λ image.
         AreBlocks image first count into.new)) }
-    ensures told { D.told disk.new ≡ D.told disk.old }
-    ensures zones { D.zones disk.new ≡ D.zones disk.old }
-    ensures calls { D.calls disk.new ≡ D.calls disk.old }
-    ensures left { Keeps (D.left disk.old) (D.left disk.new) }
-    ensures cause { HasCause (D.faults disk.old) (D.faults disk.new) result }
+    ensures reads { OnlyReads (D.view disk.old) (D.view disk.new) }
+    ensures cause { Fails result (D.view disk.old) (D.view disk.new) }
 {
     for i in 0..count {
         fill_block(disk, geometry, first, i, into)?;
@@ -131,16 +118,13 @@ pub fn read_blocks<D: ZonedDisk>(
     first: ZoneNo,
     count: u32,
 ) -> Result<SetBlocks, ReadFault>
-    requires told { D.told disk.old ≡ Some geometry.now }
+    requires told { (D.view disk.old).told ≡ Some geometry.now }
     requires inside { (i : ℕ) → i < count → first + i / geometry.now.zone_blocks < geometry.now.conv }
     ensures size { IfOk result (λ blocks. length blocks ≡ 4096 * count) }
-    ensures value { IfOk result (λ blocks. WhereTold (D.zones disk.old) (λ image.
+    ensures value { IfOk result (λ blocks. WhereTold (D.view disk.old).zones (λ image.
         AreBlocks image first count blocks)) }
-    ensures told { D.told disk.new ≡ D.told disk.old }
-    ensures zones { D.zones disk.new ≡ D.zones disk.old }
-    ensures calls { D.calls disk.new ≡ D.calls disk.old }
-    ensures left { Keeps (D.left disk.old) (D.left disk.new) }
-    ensures cause { HasReadCause (D.faults disk.old) (D.faults disk.new) result }
+    ensures reads { OnlyReads (D.view disk.old) (D.view disk.new) }
+    ensures cause { result ≡ Err ReadFault.Device → HasFailed (D.view disk.old) (D.view disk.new) }
 {
     let Ok(mut bytes) = vec![in alloc; 0u8; BLOCK * count as usize] else {
         return Err(ReadFault::Memory);
@@ -158,17 +142,14 @@ pub fn read_set<D: ZonedDisk>(
     geometry: &Geometry,
     chosen: &Chosen,
 ) -> Result<SetBlocks, ReadFault>
-    requires told { D.told disk.old ≡ Some geometry.now }
-    requires placed { IsPlaced geometry.now chosen.now }
+    requires told { (D.view disk.old).told ≡ Some geometry.now }
+    requires placed { IsPlacedChoice geometry.now chosen.now }
     ensures size { IfOk result (λ blocks.
         length blocks ≡ 4096 * used_blocks geometry.now chosen.now.head.layout) }
-    ensures value { IfOk result (λ blocks. WhereTold (D.zones disk.old) (λ image.
+    ensures value { IfOk result (λ blocks. WhereTold (D.view disk.old).zones (λ image.
         AreBlocks image chosen.now.zone (used_blocks geometry.now chosen.now.head.layout) blocks)) }
-    ensures told { D.told disk.new ≡ D.told disk.old }
-    ensures zones { D.zones disk.new ≡ D.zones disk.old }
-    ensures calls { D.calls disk.new ≡ D.calls disk.old }
-    ensures left { Keeps (D.left disk.old) (D.left disk.new) }
-    ensures cause { HasReadCause (D.faults disk.old) (D.faults disk.new) result }
+    ensures reads { OnlyReads (D.view disk.old) (D.view disk.new) }
+    ensures cause { result ≡ Err ReadFault.Device → HasFailed (D.view disk.old) (D.view disk.new) }
 {
     let used = chosen.head.layout.used_blocks(geometry);
     read_blocks(alloc, disk, geometry, chosen.zone, used)

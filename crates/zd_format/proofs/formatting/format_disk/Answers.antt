@@ -5,6 +5,7 @@ use Rattle.zd_base.specs.declared.layout.Layout.{Layout}
 use Rattle.zd_model.specs.Image.{Image}
 use Rattle.zd_model.specs.Super.{HasSizes}
 use Rattle.zd_model.specs.declared.metadata.Super.{Super}
+use Rattle.zd_disk.proofs.ViewLaws.{holds_as}
 use Rattle.zd_format.specs.Fresh.{IsFresh, head_of}
 use Rattle.zd_format.specs.Sets.{HasBothSets}
 use Rattle.zd_format.proofs.VolumeLaws.{fresh_volume}
@@ -21,11 +22,6 @@ by_found g reserved layout label volume head image shape found is sizes sets =
     shape found.0 (subst (Fits g) (sym found.0) found.1) (subst (λ (h : Super). HasBothSets g h image) is sets)
 
 pub returns-in-Ok-write_sets-clause-ok : goal.returns-in-Ok-write_sets-clause-ok
-returns-in-Ok-write_sets-clause-ok g c image e =
-    by_found c.in-Ok.geometry c.args.reserved c.in-Some.layout c.args.label c.args.volume c.head_of-head.result image c.write_sets.ensures.shape
-    c.in-Some.ensures.some c.head_of-head.ensures.value c.head_of-head.ensures.sizes (c.in-Ok-write_sets.ensures.ok image e)
-
-pub returns-in-Ok-write_sets-clause-durable : goal.returns-in-Ok-write_sets-clause-durable
-returns-in-Ok-write_sets-clause-durable g c few image e left h =
-    by_found c.in-Ok.geometry c.args.reserved c.in-Some.layout c.args.label c.args.volume c.head_of-head.result left c.write_sets.ensures.shape
-    c.in-Some.ensures.some c.head_of-head.ensures.value c.head_of-head.ensures.sizes (c.in-Ok-write_sets.ensures.durable few image e left h)
+returns-in-Ok-write_sets-clause-ok g c =
+    holds_as (λ image sets. by_found c.in-Ok.geometry c.args.reserved c.in-Some.layout c.args.label c.args.volume c.head_of-head.result image
+    c.write_sets.ensures.shape c.in-Some.ensures.some c.head_of-head.ensures.value c.head_of-head.ensures.sizes sets) c.in-Ok-write_sets.ensures.ok

@@ -1,17 +1,14 @@
-use Rattle.std.proofs.Common.{◌+◌, ◌*◌, ◌/◌, ◌%◌, sym, ap, ◌∙◌}
-use Rattle.zd_disk.proofs.ToldLaws.{Some-same}
-use Rattle.zd_format.proofs.RunLaws.{ok_put, told_put}
+use Rattle.std.proofs.Common.{sym}
+use Rattle.std.proofs.lemmas.Result.{on_ok_weaker}
+use Rattle.zd_disk.proofs.ViewLaws.{turns_as}
+use Rattle.zd_format.proofs.RunLaws.{put_blocks}
 use Rattle.zd_format.proofs.runs.write_run.Goals as goal
 
 pub returns-clause-ok : goal.returns-clause-ok
 returns-clause-ok g c =
-    let d = g.met.D.ZonedDisk in
-    let disk = c.args.disk.now in
-    let geometry = c.args.geometry.now in
-    let size = c.zone_blocks-zone_blocks.ensures.value in
-    ok_put c.write.result _ _
-    (told_put geometry c.args.first c.args.block _ _ c.args.bytes.now (g.D.ZonedDisk.zones disk) (g.D.ZonedDisk.zones c.write.new.self)
-    (λ i e. (d.shaped disk i e, Some-same _ _ (sym (d.agrees disk i e) ∙ c.requires.told)))
-    c.zone_blocks-zone_blocks.ensures.shape c.requires.whole c.requires.zone c.requires.within
-    (ap (λ n. c.args.first + c.args.block / n) size) (ap (λ n. 8 * (c.args.block % n)) size))
+    let zone_blocks = c.zone_blocks-zone_blocks.ensures in
+    on_ok_weaker c.write.result (turns_as c.requires.told (λ a b is after w.
+    let by = sym is.geometry in
+    put_blocks c.args.first c.args.block c.args.bytes.now a b is.image (rw by at zone_blocks.shape) c.requires.whole
+    (rw by at c.requires.zone) (rw by at c.requires.within) (rw by at (rw zone_blocks.value at w))))
     c.write.ensures.ok

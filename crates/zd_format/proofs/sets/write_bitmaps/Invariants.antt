@@ -1,18 +1,18 @@
-use Rattle.std.proofs.Common.{◌≡◌, ◌≤◌, ◌-◌, ◌<◌}
+use Rattle.std.proofs.Common.{◌≤◌, ◌-◌, ◌<◌}
 use Rattle.zd_disk.specs.Told.{WhereTold}
+use Rattle.zd_disk.specs.View.{Stays}
 use Rattle.zd_format.specs.Sets.{HasWritten}
 use Rattle.zd_format.proofs.sets.write_bitmaps.Given as goal
 
 -- the set is written up to this bitmap block
 abbrev pub invariant-loop-block : goal.invariant-loop-block
 invariant-loop-block g l =
-    let d = g.D.ZonedDisk in
+    let view = g.D.ZonedDisk.view in
     record {
-      behind_map : l.head.layout.map_blocks < l.block;
+      after_map : l.head.layout.map_blocks < l.block;
       within : l.block ≤ l.end;
-      told : d.told l.disk ≡ d.told l.fn.disk;
-      later : d.faults l.fn.disk ≤ d.faults l.disk;
-      written : WhereTold (d.zones l.disk) (HasWritten l.geometry l.head l.first l.block);
+      stays : Stays (view l.fn.disk) (view l.disk);
+      written : WhereTold (view l.disk).zones (HasWritten l.geometry l.head l.first l.block);
     }
 
 abbrev pub decreases-loop-block : goal.decreases-loop-block

@@ -1,12 +1,13 @@
 use Rattle.std.proofs.Common.{◌≡◌, ◌*◌, ℕ, Option, ◌∙◌, subst}
+use Rattle.std.proofs.lemmas.Result.{on_ok_weaker}
 use Rattle.zd_base.specs.Geometry.{Shape}
 use Rattle.zd_base.specs.Layout.{set_zones}
 use Rattle.zd_disk.specs.Told.{WhereTold}
+use Rattle.zd_disk.proofs.ViewLaws.{holds_durable, stays_then}
 use Rattle.zd_model.specs.Image.{Image}
 use Rattle.zd_model.specs.declared.metadata.Super.{Super}
 use Rattle.zd_format.specs.Sets.{HasWritten, placed}
-use Rattle.zd_format.proofs.RunLaws.{ok_put}
-use Rattle.zd_format.proofs.SameSets.{told_sets, left_sets, on_ok}
+use Rattle.zd_format.proofs.SameSets.{same_sets, told_sets}
 use Rattle.zd_format.proofs.sets.write_sets.Goals as goal
 
 -- the second set, by the numbers that were worked out
@@ -20,25 +21,14 @@ by_numbers g head m a b told first second size h image e =
 
 pub returns-clause-ok : goal.returns-clause-ok
 returns-clause-ok g c =
-    let d = g.met.D.ZonedDisk in
-    let disk = c.write_set-2.new.disk in
+    let geometry = c.args.geometry.now in
+    let head = c.args.head.now in
+    let shape = c.zone_blocks.ensures.shape in
     let second = c.set_zones-second.ensures in
-    let written = by_numbers c.args.geometry.now c.args.head.now c.set_zones-second.result c.from.result c.from-2.result (g.D.ZonedDisk.zones disk)
+    let written = by_numbers geometry head c.set_zones-second.result c.from.result c.from-2.result _
     second (c.from.ensures ∙ second) (c.from-2.ensures ∙ c.zone_blocks.ensures.value) c.in_ok-write_set-2.ensures.ok in
-    on_ok c.flush.result _
-    (told_sets c.args.geometry.now c.args.head.now c.zone_blocks.ensures.shape c.requires.fits c.requires.own (g.D.ZonedDisk.zones disk)
-    (g.D.ZonedDisk.zones c.flush.new.self)
-    (λ i e. d.shaped disk i e) written c.flush.ensures.zones)
-
-pub returns-clause-durable : goal.returns-clause-durable
-returns-clause-durable g c =
-    let d = g.met.D.ZonedDisk in
-    let disk = c.write_set-2.new.disk in
-    let second = c.set_zones-second.ensures in
-    let written = by_numbers c.args.geometry.now c.args.head.now c.set_zones-second.result c.from.result c.from-2.result (g.D.ZonedDisk.zones disk)
-    second (c.from.ensures ∙ second) (c.from-2.ensures ∙ c.zone_blocks.ensures.value) c.in_ok-write_set-2.ensures.ok in
-    ok_put c.flush.result _ _
-    (λ h few. left_sets c.args.geometry.now c.args.head.now c.zone_blocks.ensures.shape c.requires.fits c.requires.own (g.D.ZonedDisk.zones disk)
-    (g.D.ZonedDisk.zones c.flush.new.self) (g.D.ZonedDisk.left c.flush.new.self (g.D.ZonedDisk.calls c.flush.new.self))
-    (λ i e. d.shaped disk i e) written c.flush.ensures.zones (h few))
+    let stays = stays_then c.in_ok-write_set.ensures.stays (stays_then c.in_ok-write_set-2.ensures.stays c.flush.ensures.call.stays) in
+    on_ok_weaker c.flush.result (λ durable. holds_durable (stays.told _ c.requires.told) durable
+    (λ a b _ image same sets. same_sets geometry head shape c.requires.fits c.requires.own a b image same sets)
+    (told_sets geometry head shape c.requires.fits c.requires.own written c.flush.ensures.same))
     c.flush.ensures.durable

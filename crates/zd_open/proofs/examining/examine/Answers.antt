@@ -1,6 +1,6 @@
 use Rattle.std.proofs.Common.{ℕ, List, sym, ◌∙◌, subst}
-use Rattle.zd_disk.proofs.ToldLaws.{Some-same}
-use Rattle.zd_open.specs.Examined.{BreaksRule, FollowsRules}
+use Rattle.zd_disk.proofs.ViewLaws.{read_as}
+use Rattle.zd_open.specs.Examined.{BreaksTableRule, FollowsRules}
 use Rattle.zd_model.proofs.BitLaws.{bits_follow}
 use Rattle.zd_model.proofs.FaultLaws.{map_follows}
 use Rattle.std.specs.Prelude.{slice_index}
@@ -10,19 +10,19 @@ use Rattle.zd_open.proofs.examining.examine.Goals as goal
 
 pub returns-in-Err-clause-err : goal.returns-in-Err-clause-err
 returns-in-Err-clause-err g c image z =
-    let here = c.geometry.ensures.zones ∙ z in
-    let same = Some-same _ _ (sym c.in-Ok.ensures.value ∙ g.met.D.ZonedDisk.agrees c.geometry.new.self image here) in
+    let here = c.geometry.ensures.reads.zones ∙ z in
+    let same = sym (read_as {v = g.D.ZonedDisk.view c.geometry.new.self} c.in-Ok.ensures.value image here).geometry in
     let set = c.in_ok-chosen.ensures.value image here in
-    let pointers = c.in-Ok-read_pointers.ensures.value image (c.read_chosen.ensures.zones ∙ here) in
+    let pointers = c.in-Ok-read_pointers.ensures.value image (c.read_chosen.ensures.reads.zones ∙ here) in
     explained c.in-Ok.geometry c.in_ok-chosen.chosen c.in_ok-chosen.blocks c.in-Ok-read_pointers.pointers.items image same set.0 set.1 pointers c.in-Err.fault
-    (subst (λ (ps : List ℕ). BreaksRule c.in-Ok.geometry c.in_ok-chosen.chosen.head.layout ps c.in_ok-chosen.blocks c.in-Err.fault) c.deref.ensures.value c.in-Err.ensures.err)
+    (subst (λ (ps : List ℕ). BreaksTableRule c.in-Ok.geometry c.in_ok-chosen.chosen.head.layout ps c.in_ok-chosen.blocks c.in-Err.fault) c.deref.ensures.value c.in-Err.ensures.err)
 
 pub returns-in-Ok-test_tables-clause-ok : goal.returns-in-Ok-test_tables-clause-ok
 returns-in-Ok-test_tables-clause-ok g c image z =
-    let here = c.geometry.ensures.zones ∙ z in
-    let same = Some-same _ _ (sym c.in-Ok.ensures.value ∙ g.met.D.ZonedDisk.agrees c.geometry.new.self image here) in
+    let here = c.geometry.ensures.reads.zones ∙ z in
+    let same = sym (read_as {v = g.D.ZonedDisk.view c.geometry.new.self} c.in-Ok.ensures.value image here).geometry in
     let set = c.in_ok-chosen.ensures.value image here in
-    let pointers = c.in-Ok-read_pointers.ensures.value image (c.read_chosen.ensures.zones ∙ here) in
+    let pointers = c.in-Ok-read_pointers.ensures.value image (c.read_chosen.ensures.reads.zones ∙ here) in
     examined c.in-Ok.geometry c.in_ok-chosen.chosen c.in_ok-chosen.blocks c.in-Ok-read_pointers.pointers.items image same set.0 set.1 pointers
     (subst (λ (ps : List ℕ). FollowsRules c.in-Ok.geometry c.in_ok-chosen.chosen.head.layout ps c.in_ok-chosen.blocks) c.deref.ensures.value c.in-Ok-test_tables.ensures.ok)
 
