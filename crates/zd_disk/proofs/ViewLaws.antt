@@ -51,6 +51,10 @@ Both-join (Some a) None n P Q R f h k = absurd h
 Both-join (Some a) (Some b) None P Q R f h k = absurd k
 Both-join (Some a) (Some b) (Some c) P Q R f h k = f a b c refl refl refl h k
 
+Both-at-once : (o : Option Image) (P : Image → Image → Type 0) → ((i : Image) → o ≡ Some i → P i i) → Both o o P
+Both-at-once None P f = tt
+Both-at-once (Some i) P f = f i refl
+
 pub turned : {P : Image → Image → Type 0} {u v : View} → Turns P u v → (i : Image) → u.zones ≡ Some i → (j : Image) × (v.zones ≡ Some j) × P i j
 turned {P} {u} {v} h i e = Both-get u.zones v.zones P i h.reads e
 
@@ -74,6 +78,10 @@ pub turns_with : {P Q R : Image → Image → Type 0} {u v w : View}
 turns_with {P} {Q} {R} {u} {v} {w} f h k = record {
   reads = Both-join u.zones v.zones w.zones P Q R (λ a b c e m n p q. f a b c e m (w.shaped c n) p q) h.reads k.reads;
 }
+
+-- no call, on a disk that reads so already
+pub turns_here : {R : Image → Image → Type 0} {u : View} → ((i : Image) → u.zones ≡ Some i → R i i) → Turns R u u
+turns_here {R} {u} f = record { reads = Both-at-once u.zones R f }
 
 -- behind and before calls that only read
 pub read_turns : {Q : Image → Image → Type 0} {u v w : View} → OnlyReads u v → Turns Q v w → Turns Q u w
@@ -243,10 +251,6 @@ reaches_flush {u} {v} same call = record {
       });
 }
 
-Both-here : (o : Option Image) (P : Image → Image → Type 0) → ((i : Image) → P i i) → Both o o P
-Both-here None P f = tt
-Both-here (Some i) P f = f i
-
 module _ {R : Image → Image → Type 0} {g : Shape} (way : IsWay g R) where
   -- calls, and a flush
   pub way_then : {u v w : View} → Reaches R u v → Reaches R v w → Reaches R u w
@@ -302,11 +306,15 @@ made_then {m} {n} {u} {v} {w} order h k = record {
 
 -- counts of reading calls
 
-pub reads_none : {u v w : View} {n : ℕ} → ReadsNone u v → MadeReads n v w → MadeReads n u w
-reads_none none made = record { number_is = λ low. omega (arith, none, made.number_is low) }
+-- one more
+pub read_once : {u v w : View} {m n : ℕ} → m ≡ n + 1 → MadeReads n u v → ReadsOnce v w → MadeReads m u w
+read_once e made once = record { number_is = λ low. omega (arith, e, low, once, made.number_is (omega (arith, once, low))) }
 
-pub reads_more : {u v w : View} {n : ℕ} → ReadsOnce u v → MadeReads n v w → v.read_calls ≤ w.read_calls → MadeReads (1 + n) u w
-reads_more once made order = record { number_is = λ low. omega (arith, once, order, low, made.number_is low) }
+-- those of other calls before and after
+pub reads_between : {s t u v : View} {n : ℕ} → ReadsNone s t → MadeReads n t u → ReadsNone u v → MadeReads n s v
+reads_between before made after = record {
+  number_is = λ low. omega (arith, before, after, made.number_is (omega (arith, after, low)));
+}
 
 -- what reads leave durable is
 pub durable_read : {u v : View} → OnlyReads u v → IsDurable u → IsDurable v
@@ -421,7 +429,7 @@ pub by_none : {R : Image → Image → Image → Type 0} {u : View} → ((i a : 
 by_none {R} {u} f = record {
   stays = record { told = λ g e. e; later = omega arith; read_calls = omega arith };
   order = omega arith;
-  reads = record { reads = Both-here u.zones (λ i. R i i) (λ i. f i i) };
+  reads = turns_here (λ i e. f i i);
   left = λ low i e. record {
     earlier = λ k b under can. can;
     each = λ k b above below can. (b, subst (λ (n : ℕ). u.left n b) (let at : k ≡ u.calls = omega arith in at) can, f i b);

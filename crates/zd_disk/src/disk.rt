@@ -24,7 +24,7 @@ pub trait ZonedDisk: Drop {
     /// The geometry, the same at each answer.
     fn geometry(&mut self) -> Result<Geometry, Failed>
         ensures value { IfOk result (λ g. (view self.new).told ≡ Some g) }
-        ensures counted { ReadsNone (view self.old) (view self.new) }
+        ensures read_calls { ReadsNone (view self.old) (view self.new) }
         ensures reads { OnlyReads (view self.old) (view self.new) }
         ensures cause { Fails result (view self.old) (view self.new) };
 
@@ -33,7 +33,7 @@ pub trait ZonedDisk: Drop {
         requires { IsSomeAnd (view self.old).told (IsSequentialZone zone) }
         ensures value { IfOk result (λ p. IfSome (view self.old).zones (λ i. p ≡ i.held zone)) }
         ensures within { IfOk result (λ p. IfSome (view self.old).told (λ g. p ≤ zone_sectors g)) }
-        ensures counted { ReadsOnce (view self.old) (view self.new) }
+        ensures read_calls { ReadsOnce (view self.old) (view self.new) }
         ensures reads { OnlyReads (view self.old) (view self.new) }
         ensures cause { Fails result (view self.old) (view self.new) };
 
@@ -47,7 +47,7 @@ pub trait ZonedDisk: Drop {
         requires below { IfSome (view self.old).zones (λ i. start + count_of into.old ≤ i.held zone) }
         ensures value { OnOk result (IfSome (view self.old).zones (λ i.
             into.new ≡ run_of (i.sector zone) start (count_of into.old))) }
-        ensures counted { ReadsOnce (view self.old) (view self.new) }
+        ensures read_calls { ReadsOnce (view self.old) (view self.new) }
         ensures reads { OnlyReads (view self.old) (view self.new) }
         ensures cause { Fails result (view self.old) (view self.new) };
 

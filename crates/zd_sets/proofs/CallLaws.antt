@@ -3,8 +3,7 @@ use Rattle.std.proofs.Common.{◌≡◌, Option, is_some, Some, ℕ, ◌+◌, �
 use Rattle.std.specs.List.{range_with_len}
 use Rattle.std.specs.Str.{bytes_eq}
 use Rattle.std.proofs.lemmas.Bool.{cases_Bool}
-use Rattle.std.proofs.lemmas.List.FromFn.{map-range_with_len_more}
-use Rattle.std.proofs.lemmas.List.Sums.{sum-map, sum_by_push}
+use Rattle.std.proofs.lemmas.List.Sums.{sum-map}
 use Rattle.std.proofs.lemmas.Slice.Eq.{bytes_eq-Decides}
 use Rattle.zd_base.specs.Geometry.{Shape}
 use Rattle.zd_base.specs.Layout.{used_blocks}
@@ -13,6 +12,7 @@ use Rattle.zd_model.specs.declared.metadata.Super.{Super}
 use Rattle.zd_model.proofs.SameLaws.{same_block, same_map}
 use Rattle.zd_disk.specs.Told.{WhereTold}
 use Rattle.zd_disk.specs.View.{View, Made, MadeOf, Turns}
+use Rattle.zd_disk.proofs.RunLaws.{count_then}
 use Rattle.zd_disk.proofs.ViewLaws.{read_as, turned}
 use Rattle.zd_sets.specs.Blocks.{AreBlocks, blocks_of}
 use Rattle.zd_sets.specs.Calls.{clear_calls, differ, differing, differing_from, equal_calls, passing}
@@ -22,29 +22,21 @@ use Rattle.zd_sets.specs.Equal.{HasSetBlocks, InSet, IsCleared}
 use Rattle.zd_sets.proofs.EqualLaws.{here_inside, same_good, same_only, set_still, there_inside}
 use Rattle.zd_sets.proofs.WayLaws.{outside}
 
-sum_more : (f : ℕ → ℕ) (n k : ℕ) → 1 + n ≡ k → sum_by f (range_with_len 1 (n + 1)) ≡ sum_by f (range_with_len 1 n) + f k
-sum_more f n k e =
-    sym (sum-map f (range_with_len 1 (n + 1)))
-    ∙ ap sum (map-range_with_len_more f 1 n k e)
-    ∙ sum_by_push (λ (x : ℕ). x) (map f (range_with_len 1 n)) (f k)
-    ∙ ap (λ (x : ℕ). x + f k) (sum-map f (range_with_len 1 n))
-
-sum_same : (f h : ℕ → ℕ) (n : ℕ) → ((k : ℕ) → 1 ≤ k → k < 1 + n → f k ≡ h k) → sum_by f (range_with_len 1 n) ≡ sum_by h (range_with_len 1 n)
-sum_same f h n same =
-    sym (sum-map f (range_with_len 1 n)) ∙ ap sum (same_map f h 1 n same) ∙ sum-map h (range_with_len 1 n)
-
--- a count with one number more
-pub passing_more : (test : ℕ → Bool) (end : ℕ) → 1 ≤ end → passing test (end + 1) ≡ passing test end + cond (test end) 1 0
-passing_more test end some =
-    let more : end + 1 - 1 ≡ end - 1 + 1 = omega arith in
-    ap (λ (n : ℕ). count_by test (range_with_len 1 n)) more
-    ∙ sum_more (λ k. cond (test k) 1 0) (end - 1) end (omega arith)
+sum_same : (f h : ℕ → ℕ) (a n : ℕ) → ((k : ℕ) → a ≤ k → k < a + n → f k ≡ h k) → sum_by f (range_with_len a n) ≡ sum_by h (range_with_len a n)
+sum_same f h a n same =
+    sym (sum-map f (range_with_len a n)) ∙ ap sum (same_map f h a n same) ∙ sum-map h (range_with_len a n)
 
 -- a count by a test that answers the same
-pub passing_same : (p q : ℕ → Bool) (end : ℕ) → ((k : ℕ) → 1 ≤ k → k < end → p k ≡ q k) → passing p end ≡ passing q end
-passing_same p q end same =
-    sum_same (λ k. cond (p k) 1 0) (λ k. cond (q k) 1 0) (end - 1)
+pub passing_same : (p q : ℕ → Bool) (from end : ℕ) → ((k : ℕ) → from ≤ k → k < end → p k ≡ q k) → passing p from end ≡ passing q from end
+passing_same p q from end same =
+    sum_same (λ k. cond (p k) 1 0) (λ k. cond (q k) 1 0) from (end - from)
     (λ k low high. ap {B = ℕ} (λ (b : Bool). cond b 1 0) (same k low (omega arith)))
+
+-- one block alone
+pub passing_one : (p : ℕ → Bool) (i : ℕ) → passing p i (i + 1) ≡ cond (p i) 1 0
+passing_one p i =
+    ap (λ (n : ℕ). count_by p (range_with_len i n)) (let e : i + 1 - i ≡ 1 = omega arith in e)
+    ∙ (let e : 0 + cond (p i) 1 0 ≡ cond (p i) 1 0 = omega arith in e)
 
 -- blocks that a comparison tells apart differ
 pub differ_by : (there block : List ℕ) → bytes_eq block there ≡ false → ◌≡◌ {A = ℕ} (cond (differ there block) 1 0) 1
@@ -53,20 +45,21 @@ differ_by there block other = elim (cases_Bool (bytes_eq there block)) [
   | inr e ↦ ap {B = ℕ} (λ (b : Bool). cond (not b) 1 0) e
 ]
 
--- one block more
-pub counted_more : {g : Shape} {first i : ℕ} {bytes : List ℕ} {u v w : View}
-    → 0 < g.zone_blocks → 1 ≤ i → first + i / g.zone_blocks < g.conv → v.calls ≤ w.calls
-    → u.told ≡ Some g → Turns (HasSetBlocks g first 1 i bytes) u v → MadeOf (differing_from bytes first i) u v
-    → MadeOf (λ image. cond (differ (set_block image first i) (blocks_of bytes i 1)) 1 0) v w
-    → MadeOf (differing_from bytes first (i + 1)) u w
-counted_more {g} {first} {i} {bytes} {u} {v} {w} some front inside later told copied before here = record {
-  number_is = λ low image e. (
+-- blocks that were compared, and then those after them
+pub counted_then : {g : Shape} {first from m end : ℕ} {bytes : List ℕ} {u v w : View}
+    → 0 < g.zone_blocks → from ≤ m → m ≤ end → ((k : ℕ) → k < end → first + k / g.zone_blocks < g.conv) → v.calls ≤ w.calls
+    → u.told ≡ Some g → Turns (HasSetBlocks g first from m bytes) u v → MadeOf (differing_from bytes first from m) u v
+    → MadeOf (differing_from bytes first m end) v w → MadeOf (differing_from bytes first from end) u w
+counted_then {g} {first} {from} {m} {end} {bytes} {u} {v} {w} some low high inside later told copied before here = record {
+  number_is = λ few image e. (
       let there = turned copied image e in
-      let same = set_still g first (InSet g first 1 i) image there.0 some (read_as {v = u} told image e).geometry there.2.only i inside
-      (outside g first 1 i i some (inr (omega arith))) in
-      let one = ap {B = ℕ} (λ (block : List ℕ). cond (differ block (blocks_of bytes i 1)) 1 0) same in
-      let more = passing_more (λ k. differ (set_block image first k) (blocks_of bytes k 1)) i front in
-      omega (arith, before.number_is (omega (arith, low, later)) image e, here.number_is low there.0 there.1, one, more));
+      let same = passing_same (λ k. differ (set_block there.0 first k) (blocks_of bytes k 1))
+      (λ k. differ (set_block image first k) (blocks_of bytes k 1)) m end (λ k above below.
+      ap (λ (block : List ℕ). differ block (blocks_of bytes k 1))
+      (set_still g first (InSet g first from m) image there.0 some (read_as {v = u} told image e).geometry there.2.only k (inside k below)
+      (outside g first from m k some (inr above)))) in
+      let all = count_then (λ k. differ (set_block image first k) (blocks_of bytes k 1)) from m end low high in
+      omega (arith, before.number_is (omega (arith, few, later)) image e, here.number_is few there.0 there.1, same, all));
 }
 
 -- and a flush
@@ -81,9 +74,9 @@ module _ (g : Shape) (choice : Choice) (placed : IsPlacedChoice g choice) (some 
   -- the blocks behind the first, as they read once the super block is cleared
   differing_cleared : (bytes : List ℕ) (a b : Image) → a.geometry ≡ g → AreBlocks a choice.zone (used_blocks g choice.head.layout) bytes
       → IsCleared g choice.other choice.other_good a b
-      → differing_from bytes choice.other (used_blocks g choice.head.layout) b ≡ differing choice (used_blocks g choice.head.layout) a
+      → differing_from bytes choice.other 1 (used_blocks g choice.head.layout) b ≡ differing choice (used_blocks g choice.head.layout) a
   differing_cleared bytes a b shape blocks clear =
-      passing_same (λ k. differ (set_block b choice.other k) (blocks_of bytes k 1)) (λ k. differ (set_block a choice.other k) (set_block a choice.zone k)) (used_blocks g choice.head.layout)
+      passing_same (λ k. differ (set_block b choice.other k) (blocks_of bytes k 1)) (λ k. differ (set_block a choice.other k) (set_block a choice.zone k)) 1 (used_blocks g choice.head.layout)
       (λ k low high. ap₂ differ
       (set_still g choice.other (InSet g choice.other 0 1) a b some shape clear.only k (there_inside g choice [] placed some k high)
       (outside g choice.other 0 1 k some (inr low)))
@@ -94,7 +87,7 @@ module _ (g : Shape) (choice : Choice) (placed : IsPlacedChoice g choice) (some 
       → WhereTold s.zones (IsChoice choice)
       → WhereTold s.zones (λ image. AreBlocks image choice.zone (used_blocks g choice.head.layout) bytes)
       → Turns (IsCleared g choice.other choice.other_good) s t → Made (clear_calls choice.other_good) s t
-      → MadeOf (λ image. differing_from bytes choice.other (used_blocks g choice.head.layout) image + 1) t u
+      → MadeOf (λ image. differing_from bytes choice.other 1 (used_blocks g choice.head.layout) image + 1) t u
       → Made 2 u v → MadeOf (equal_calls choice (used_blocks g choice.head.layout)) s v
   counted_equal {bytes} {s} {t} {u} {v} told later last chosen blocks cleared one two three = record {
     number_is = λ low image e. (
@@ -114,7 +107,7 @@ module _ (g : Shape) (choice : Choice) (placed : IsPlacedChoice g choice) (some 
       let low = placed.other in
       ap₂ (λ (o : Option Super) (n : ℕ). clear_calls (is_some o) + n + 3)
       (same_good a b choice.other same.geometry (same_block a b image same choice.other 0 (omega (arith, conv)) (omega (arith, blocks))))
-      (passing_same (λ k. differ (set_block b choice.other k) (set_block b choice.zone k)) (λ k. differ (set_block a choice.other k) (set_block a choice.zone k)) (used_blocks g choice.head.layout)
+      (passing_same (λ k. differ (set_block b choice.other k) (set_block b choice.zone k)) (λ k. differ (set_block a choice.other k) (set_block a choice.zone k)) 1 (used_blocks g choice.head.layout)
       (λ k low high. ap₂ differ
       (set_still g choice.other (λ _ _. ⊥) a b some shape only k (there_inside g choice [] placed some k high) (λ none. none))
       (set_still g choice.zone (λ _ _. ⊥) a b some shape only k (here_inside g choice [] placed some k high) (λ none. none))))

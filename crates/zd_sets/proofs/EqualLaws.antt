@@ -21,7 +21,7 @@ use Rattle.zd_disk.specs.Steps.{Wrote, count_of, piece}
 use Rattle.zd_sets.specs.Blocks.{AreBlocks, blocks_of}
 use Rattle.zd_sets.specs.Choice.{IsPlacedChoice}
 use Rattle.zd_sets.specs.declared.choice.Chosen.{Chosen as Choice}
-use Rattle.zd_sets.specs.Equal.{HasBlock, HasSetBlocks, HasSuper, InSet, IsCleared, IsMadeEqual, IsReady, OnlyAt, head_at}
+use Rattle.zd_sets.specs.Equal.{HasSetBlocks, HasSuper, InSet, IsCleared, IsMadeEqual, IsReady, OnlyAt, head_at}
 use Rattle.zd_sets.specs.Writes.{WroteBlock}
 
 pub only_same : (P : ℕ → ℕ → Type 0) (a : Image) → OnlyAt P a a
@@ -109,35 +109,47 @@ module _ (g : Shape) (first : ℕ) (some : 0 < g.zone_blocks) where
       let one : at.0 ≡ i = omega (arith, at.1, at.2) in
       other (same_place g.zone_blocks k at.0 some (omega (arith, at.3)) at.4 ∙ one)
 
-  -- one block more is copied
-  pub copied_more : (from i : ℕ) (bytes : List ℕ) (a b c : Image) → a.geometry ≡ g → from ≤ i
-      → ((k : ℕ) → k < i → first + k / g.zone_blocks < g.conv)
-      → HasSetBlocks g first from i bytes a b → HasBlock g first i (blocks_of bytes i 1) b c
-      → HasSetBlocks g first from (i + 1) bytes a c
-  copied_more from i bytes a b c shape low inside h k = record {
-    only = only_then (InSet g first from (i + 1)) a b c
-        (only_more (InSet g first from i) (InSet g first from (i + 1)) a b (λ z x p. (p.0, p.1, omega (arith, p.2), p.3, p.4)) h.only)
-        (only_more (InSet g first i (i + 1)) (InSet g first from (i + 1)) b c (λ z x p. (p.0, omega (arith, p.1), p.2, p.3, p.4)) k.only);
-    each = λ j above below. elim (cases_eq j i) [
-      | inl here ↦ subst (λ (m : ℕ). set_block c first m ≡ blocks_of bytes m 1) (sym here) k.block_is
-      | inr there ↦ set_still g first (InSet g first i (i + 1)) b c some (h.only.geometry ∙ shape) k.only j (inside j (omega arith)) (apart i j there)
-          ∙ h.each j above (omega arith)
+  -- blocks are copied, and then those after them
+  pub copied_then : (from m end : ℕ) (bytes : List ℕ) (a b c : Image) → a.geometry ≡ g → from ≤ m → m ≤ end
+      → ((k : ℕ) → k < m → first + k / g.zone_blocks < g.conv)
+      → HasSetBlocks g first from m bytes a b → HasSetBlocks g first m end bytes b c
+      → HasSetBlocks g first from end bytes a c
+  copied_then from m end bytes a b c shape low high inside h k = record {
+    only = only_then (InSet g first from end) a b c
+        (only_more (InSet g first from m) (InSet g first from end) a b (λ z x p. (p.0, p.1, omega (arith, p.2, high), p.3, p.4)) h.only)
+        (only_more (InSet g first m end) (InSet g first from end) b c (λ z x p. (p.0, omega (arith, p.1, low), p.2, p.3, p.4)) k.only);
+    each = λ j above below. elim (cases_lt j m) [
+      | inl before ↦ set_still g first (InSet g first m end) b c some (h.only.geometry ∙ shape) k.only j (inside j before)
+          (λ at. absurd (omega (arith, before, at.1, same_place g.zone_blocks j at.0 some (omega (arith, at.3)) at.4)))
+          ∙ h.each j above before
+      | inr past ↦ k.each j past below
     ];
   }
 
 -- a block that is written is there, alone
-pub wrote_has : (g : Shape) (first i : ℕ) (block : List ℕ) (old new : Image) → old.geometry ≡ g → IsImage old
-    → 0 < g.zone_blocks → first + i / g.zone_blocks < g.conv → length block ≡ 4096
-    → WroteBlock (first + i / g.zone_blocks) (i % g.zone_blocks) block old new → HasBlock g first i block old new
-wrote_has g first i block old new shape image some inside size w =
+pub wrote_has : (g : Shape) (first i : ℕ) (bytes : List ℕ) (old new : Image) → old.geometry ≡ g → IsImage old
+    → 0 < g.zone_blocks → first + i / g.zone_blocks < g.conv → length (blocks_of bytes i 1) ≡ 4096
+    → WroteBlock (first + i / g.zone_blocks) (i % g.zone_blocks) (blocks_of bytes i 1) old new
+    → HasSetBlocks g first i (i + 1) bytes old new
+wrote_has g first i bytes old new shape image some inside size w =
     let conv = ap (λ (s : Shape). s.conv) shape in
     let blocks = ap (λ (s : Shape). s.zone_blocks) shape in
     record {
       only = only_more (λ z k. (z ≡ first + i / g.zone_blocks) × (k ≡ i % g.zone_blocks)) (InSet g first i (i + 1)) old new
           (λ z k p. (i, omega arith, omega arith, p.0, p.1))
-          (wrote_only old new image (first + i / g.zone_blocks) (i % g.zone_blocks) 8 block (omega (arith, conv)) (omega (arith, blocks)) size (omega arith) w.wrote);
-      block_is = ap (λ (s : Shape). block_at new (first + i / s.zone_blocks) (i % s.zone_blocks)) (w.wrote.geometry ∙ shape) ∙ w.put;
+          (wrote_only old new image (first + i / g.zone_blocks) (i % g.zone_blocks) 8 (blocks_of bytes i 1) (omega (arith, conv))
+          (omega (arith, blocks)) size (omega arith) w.wrote);
+      each = λ k above below. subst (λ (n : ℕ). set_block new first n ≡ blocks_of bytes n 1) (let e : i ≡ k = omega arith in e)
+          (ap (λ (s : Shape). block_at new (first + i / s.zone_blocks) (i % s.zone_blocks)) (w.wrote.geometry ∙ shape) ∙ w.put);
     }
+
+-- a block that stands there already need not be written
+pub stands_there : (g : Shape) (first i : ℕ) (bytes : List ℕ) (image : Image) → set_block image first i ≡ blocks_of bytes i 1
+    → HasSetBlocks g first i (i + 1) bytes image image
+stands_there g first i bytes image is = record {
+  only = only_same (InSet g first i (i + 1)) image;
+  each = λ k above below. subst (λ (n : ℕ). set_block image first n ≡ blocks_of bytes n 1) (let e : i ≡ k = omega arith in e) is;
+}
 
 pub copied_none : (g : Shape) (first from : ℕ) (bytes : List ℕ) (a : Image) → HasSetBlocks g first from from bytes a a
 copied_none g first from bytes a = record {

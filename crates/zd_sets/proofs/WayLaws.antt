@@ -1,6 +1,6 @@
 -- Steps of making the other set equal, done or cut short, one after another.
 use Rattle.std.proofs.Common.{◌≡◌, ◌⊎◌, Some, None, ℕ, ◌+◌, ◌*◌, ◌/◌, ◌%◌, ◌<◌, ◌≤◌, List, length, replicate, inl, inr, Bool, true, false, refl, sym, ap, ◌∙◌, subst, arith}
-use Rattle.std.proofs.lemmas.Bool.{cases_eq, cases_lt}
+use Rattle.std.proofs.lemmas.Bool.{cases_lt}
 use Rattle.std.proofs.lemmas.List.{length-replicate}
 use Rattle.zd_base.specs.Geometry.{IsShape, Shape}
 use Rattle.zd_base.specs.Layout.{used_blocks}
@@ -11,8 +11,8 @@ use Rattle.zd_model.proofs.SameLaws.{same_block}
 use Rattle.zd_model.proofs.SuperSpelling.{spells}
 use Rattle.zd_sets.specs.Blocks.{AreBlocks, blocks_of}
 use Rattle.zd_sets.specs.Choice.{IsChoice, IsPlacedChoice, chosen_of}
-use Rattle.zd_sets.specs.Equal.{HasBlock, HasSetBlocks, HasSuper, InSet, IsCleared, IsReady, OnlyAt, head_at}
-use Rattle.zd_sets.specs.Kept.{HasMagicOf, HasPartOfBlock, HasPartOfBlocks, HasPartOfSuper, IsOnTheWay, IsPartCleared, KeepsVolume}
+use Rattle.zd_sets.specs.Equal.{HasSetBlocks, HasSuper, InSet, IsCleared, IsReady, OnlyAt, head_at}
+use Rattle.zd_sets.specs.Kept.{HasMagicOf, HasPartOfBlocks, HasPartOfSuper, IsOnTheWay, IsPartCleared, KeepsVolume}
 use Rattle.zd_sets.specs.declared.choice.Chosen.{Chosen as Choice}
 use Rattle.zd_sets.proofs.EqualLaws.{at_front, first_block, only_more, only_then, same_good, same_only, same_place, set_still, there_inside}
 use Rattle.zd_sets.proofs.KeptLaws.{keeps_volume}
@@ -28,9 +28,6 @@ done_clear g zone good a b h = record { only = h.only; super = by_good good refl
     by_good : (v : Bool) → good ≡ v → (block_at b zone 0 ≡ block_at a zone 0) ⊎ ((good ≡ false) × (good_super b zone ≡ None))
     by_good true e = inl (h.same e)
     by_good false e = inr (e, zeros_bad b zone (h.zeros e))
-
-pub done_block : (g : Shape) (first i : ℕ) (block : List ℕ) (a b : Image) → HasBlock g first i block a b → HasPartOfBlock g first i block a b
-done_block g first i block a b h = record { only = h.only; mark = inr (ap has_magic h.block_is) }
 
 pub done_blocks : (g : Shape) (first from end : ℕ) (bytes : List ℕ) (a b : Image) → HasSetBlocks g first from end bytes a b
     → HasPartOfBlocks g first from end bytes a b
@@ -59,10 +56,11 @@ set_place : (g : Shape) (first i : ℕ) (a : Image) → a.geometry ≡ g
     → set_block a first i ≡ block_at a (first + i / g.zone_blocks) (i % g.zone_blocks)
 set_place g first i a shape = ap (λ (s : Shape). block_at a (first + i / s.zone_blocks) (i % s.zone_blocks)) shape
 
-pub part_block : (g : Shape) (first i : ℕ) (block : List ℕ) (a b : Image) → a.geometry ≡ g → IsImage a → 0 < g.zone_blocks
-    → first + i / g.zone_blocks < g.conv → length block ≡ 4096
-    → WrotePart (first + i / g.zone_blocks) (8 * (i % g.zone_blocks)) block a b → HasPartOfBlock g first i block a b
-part_block g first i block a b shape image some inside size w =
+pub part_block : (g : Shape) (first i : ℕ) (bytes : List ℕ) (a b : Image) → a.geometry ≡ g → IsImage a → 0 < g.zone_blocks
+    → first + i / g.zone_blocks < g.conv → length (blocks_of bytes i 1) ≡ 4096
+    → WrotePart (first + i / g.zone_blocks) (8 * (i % g.zone_blocks)) (blocks_of bytes i 1) a b
+    → HasPartOfBlocks g first i (i + 1) bytes a b
+part_block g first i bytes a b shape image some inside size w =
     let conv = ap (λ (s : Shape). s.conv) shape in
     let blocks = ap (λ (s : Shape). s.zone_blocks) shape in
     let zone : ℕ = first + i / g.zone_blocks in
@@ -71,11 +69,13 @@ part_block g first i block a b shape image some inside size w =
     record {
       only = only_more (λ z k. (z ≡ first + i / g.zone_blocks) × (k ≡ i % g.zone_blocks)) (InSet g first i (i + 1)) a b
           (λ z k p. (i, omega arith, omega arith, p.0, p.1))
-          (mixed_only a b zone x 8 block image (omega (arith, conv)) (omega (arith, blocks)) size (omega arith) w);
-      mark = elim (mixed_mark a b image zone x block (omega (arith, conv)) (omega (arith, blocks)) w size) [
-        | inl before ↦ inl (now ∙ before ∙ ap has_magic (sym (set_place g first i a shape)))
-        | inr put ↦ inr (now ∙ put)
-      ];
+          (mixed_only a b zone x 8 (blocks_of bytes i 1) image (omega (arith, conv)) (omega (arith, blocks)) size (omega arith) w);
+      marks = λ k above below. subst (λ (n : ℕ). HasMagicOf (set_block b first n) (set_block a first n) (blocks_of bytes n 1))
+          (let e : i ≡ k = omega arith in e)
+          (elim (mixed_mark a b image zone x (blocks_of bytes i 1) (omega (arith, conv)) (omega (arith, blocks)) w size) [
+            | inl before ↦ inl (now ∙ before ∙ ap has_magic (sym (set_place g first i a shape)))
+            | inr put ↦ inr (now ∙ put)
+          ]);
     }
 
 pub part_super : (g : Shape) (c : Choice) (end : ℕ) (a b : Image) → a.geometry ≡ g → IsImage a → IsImage b → c.other < g.conv
@@ -116,17 +116,21 @@ outside g first from end k some out at =
     let one = same_place g.zone_blocks k at.0 some (omega (arith, at.3)) at.4 in
     elim out [ inl before ↦ absurd (omega (arith, at.1, one)) | inr behind ↦ absurd (omega (arith, at.2, one)) ]
 
--- part of one of the blocks
-pub one_of_blocks : (g : Shape) (first from i end : ℕ) (bytes : List ℕ) (a b : Image) → 0 < g.zone_blocks → a.geometry ≡ g
-    → from ≤ i → i < end → ((k : ℕ) → k < end → first + k / g.zone_blocks < g.conv)
-    → HasPartOfBlock g first i (blocks_of bytes i 1) a b → HasPartOfBlocks g first from end bytes a b
-one_of_blocks g first from i end bytes a b some shape low high inside part = record {
-  only = only_more (InSet g first i (i + 1)) (InSet g first from end) a b
+-- part of some of the blocks
+pub part_of_more : (g : Shape) (first from end : ℕ) (bytes : List ℕ) → 0 < g.zone_blocks
+    → ((k : ℕ) → k < end → first + k / g.zone_blocks < g.conv) → (low high : ℕ) → from ≤ low → high ≤ end
+    → (a b : Image) → a.geometry ≡ g → HasPartOfBlocks g first low high bytes a b → HasPartOfBlocks g first from end bytes a b
+part_of_more g first from end bytes some inside low high least most a b shape part = record {
+  only = only_more (InSet g first low high) (InSet g first from end) a b
       (λ z x p. (p.0, omega (arith, p.1), omega (arith, p.2), p.3, p.4)) part.only;
-  marks = λ k above below. elim (cases_eq k i) [
-    | inl here ↦ subst (λ (n : ℕ). HasMagicOf (set_block b first n) (set_block a first n) (blocks_of bytes n 1)) (sym here) part.mark
-    | inr other ↦ inl (ap has_magic (set_still g first (InSet g first i (i + 1)) a b some shape part.only k (inside k below)
-        (outside g first i (i + 1) k some (elim (cases_lt k i) [ inl before ↦ inl before | inr past ↦ inr (omega (arith, other)) ]))))
+  marks = λ k above below. elim (cases_lt k low) [
+    | inl before ↦ inl (ap has_magic (set_still g first (InSet g first low high) a b some shape part.only k (inside k below)
+        (outside g first low high k some (inl before))))
+    | inr on ↦ elim (cases_lt k high) [
+      | inl within ↦ part.marks k on within
+      | inr past ↦ inl (ap has_magic (set_still g first (InSet g first low high) a b some shape part.only k (inside k below)
+          (outside g first low high k some (inr past))))
+    ]
   ];
 }
 

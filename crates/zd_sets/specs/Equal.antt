@@ -20,11 +20,6 @@ abbrev pub InSet : Shape → ℕ → ℕ → ℕ → ℕ → ℕ → Type 0
 InSet g first from end z x =
     (k : ℕ) × (from ≤ k) × (k < end) × (z ≡ first + k / g.zone_blocks) × (x ≡ k % g.zone_blocks)
 
--- block i of the set is this one, and no other block changed
-pub record HasBlock (g : Shape) (first i : ℕ) (block : List ℕ) (old new : Image) : Type 0 where
-  pub only : OnlyAt (InSet g first i (i + 1)) old new
-  pub block_is : set_block new first i ≡ block
-
 -- the blocks of the set from block `from` up to block `end` are those of these bytes, and no other
 -- block changed
 pub record HasSetBlocks (g : Shape) (first from end : ℕ) (bytes : List ℕ) (old new : Image) : Type 0 where

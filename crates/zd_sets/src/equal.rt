@@ -1,57 +1,95 @@
 //! The other set made equal to the chosen one.
 
-ghost use Rattle.std.specs.Prelude.{◌≡◌, ◌+◌, ◌*◌, ◌/◌, ◌<◌, ◌≤◌, ℕ, Some, IsSomeAnd, OnOk, if◌then◌else◌, length};
+ghost use Rattle.std.specs.Prelude.{◌≡◌, ◌+◌, ◌-◌, ◌*◌, ◌/◌, ◌%◌, ◌<◌, ◌≤◌, ℕ, Some, IsSomeAnd, OnOk, length};
 ghost use Rattle.zd_base.specs.Layout.{used_blocks};
 ghost use Rattle.zd_disk.specs.Told.{WhereTold};
-ghost use Rattle.zd_disk.specs.View.{Fails, Holds, IsDurable, Keeps, Made, MadeOf, Reaches, Turns};
+ghost use Rattle.zd_disk.specs.Runs.{run_count};
+ghost use Rattle.zd_disk.specs.View.{Fails, Holds, IsDurable, Keeps, Made, MadeOf, MadeReads, Reaches, ReadsNone, ReadsOnce, Turns};
 ghost use Rattle.zd_model.specs.Image.{set_block};
 ghost use Rattle.zd_model.specs.Super.{HasSizes};
 ghost use Rattle.zd_sets.specs.Blocks.{AreBlocks};
-ghost use Rattle.zd_sets.specs.Calls.{clear_calls, differ, differing_from, equal_calls};
+ghost use Rattle.zd_sets.specs.Calls.{clear_calls, differing_from, equal_calls};
 ghost use Rattle.zd_sets.specs.Choice.{IsChoice, IsPlacedChoice, chosen_of};
-ghost use Rattle.zd_sets.specs.Kept.{HasPartOfBlock, HasPartOfBlocks, HasPartOfSuper, IsPartCleared, KeepsVolume};
-ghost use Rattle.zd_sets.specs.Equal.{HasBlock, HasSetBlocks, HasSuper, InSet, IsCleared, IsMadeEqual, IsReady, OnlyAt, head_at};
+ghost use Rattle.zd_sets.specs.Kept.{HasPartOfBlocks, HasPartOfSuper, IsPartCleared, KeepsVolume};
+ghost use Rattle.zd_sets.specs.Equal.{HasSetBlocks, HasSuper, InSet, IsCleared, IsMadeEqual, IsReady, OnlyAt, head_at};
 
-use crate::read::read_set_block;
+use crate::read::read_run;
 use crate::{Chosen, SetBlocks, write_block, write_super};
 use zd_base::{BLOCK, Failed, Geometry, SECTOR, ZoneNo};
-use zd_disk::ZonedDisk;
+use zd_disk::{RUN_BLOCKS, ZonedDisk, run_length};
 use zd_model::Super;
 
-/// Makes block `i` of the set that begins in zone `first` this one, by a write where it differs.
+/// Makes block `i` of the set that begins in zone `first` that of these blocks, by a write where another one
+/// stands there.
 ///
 /// At any answer, and in what a stop leaves, the block begins with the magic bytes only where it did
-/// before or where this one does.
+/// before or where that of these blocks does.
 fn copy_block<D: ZonedDisk>(
     disk: &mut D,
     geometry: &Geometry,
     first: ZoneNo,
     i: u32,
-    block: &[u8],
+    blocks: &SetBlocks,
+    there: &[u8],
 ) -> Result<(), Failed>
     requires told { (D.view disk.old).told ≡ Some geometry.now }
     requires inside { first + i / geometry.now.zone_blocks < geometry.now.conv }
-    requires size { length block.now ≡ 4096 }
-    ensures ok { OnOk result (Turns (HasBlock geometry.now first i block.now)
+    requires size { 4096 * (i + 1) ≤ length blocks.now }
+    requires there { WhereTold (D.view disk.old).zones (λ image. there.now ≡ set_block image first i) }
+    ensures ok { OnOk result (Turns (HasSetBlocks geometry.now first i (i + 1) blocks.now)
         (D.view disk.old) (D.view disk.new)) }
-    ensures way { Reaches (HasPartOfBlock geometry.now first i block.now)
+    ensures way { Reaches (HasPartOfBlocks geometry.now first i (i + 1) blocks.now)
         (D.view disk.old) (D.view disk.new) }
-    ensures counted { OnOk result (MadeOf
-        (λ image. if differ (set_block image first i) block.now then 1 else 0)
+    ensures counted { OnOk result (MadeOf (differing_from blocks.now first i (i + 1))
         (D.view disk.old) (D.view disk.new)) }
+    ensures read_calls { ReadsNone (D.view disk.old) (D.view disk.new) }
     ensures cause { Fails result (D.view disk.old) (D.view disk.new) }
 {
     let _zone_blocks = geometry.zone_blocks();
-    let mut there = [0; BLOCK];
-    read_set_block(disk, geometry, first, i, &mut there)?;
-    if block == there.as_slice() {
+    let block = blocks.block(i);
+    if block == there {
         return Ok(());
     }
     write_block(disk, geometry, first, i, block)
 }
 
+/// Makes blocks of the set that begins in zone `first`, from block `i` up to block `end`, all in one zone, those
+/// of these blocks: by one call that reads them into `there`, and a write for each that differs.
+fn copy_run<D: ZonedDisk>(
+    disk: &mut D,
+    geometry: &Geometry,
+    first: ZoneNo,
+    i: u32,
+    end: u32,
+    blocks: &SetBlocks,
+    there: &mut [u8],
+) -> Result<(), Failed>
+    requires told { (D.view disk.old).told ≡ Some geometry.now }
+    requires some { i < end }
+    requires zone { first + i / geometry.now.zone_blocks < geometry.now.conv }
+    requires within { i % geometry.now.zone_blocks + (end - i) ≤ geometry.now.zone_blocks }
+    requires size { 4096 * end ≤ length blocks.now }
+    requires there { length there.old ≡ 4096 * (end - i) }
+    ensures ok { OnOk result (Turns (HasSetBlocks geometry.now first i end blocks.now)
+        (D.view disk.old) (D.view disk.new)) }
+    ensures way { Reaches (HasPartOfBlocks geometry.now first i end blocks.now)
+        (D.view disk.old) (D.view disk.new) }
+    ensures counted { OnOk result (MadeOf (differing_from blocks.now first i end)
+        (D.view disk.old) (D.view disk.new)) }
+    ensures read_calls { OnOk result (ReadsOnce (D.view disk.old) (D.view disk.new)) }
+    ensures cause { Fails result (D.view disk.old) (D.view disk.new) }
+{
+    let _zone_blocks = geometry.zone_blocks();
+    read_run(disk, geometry, first, i, there)?;
+    for k in i..end {
+        let at = BLOCK * (k - i) as usize;
+        copy_block(disk, geometry, first, k, blocks, &there[at..at + BLOCK])?;
+    }
+    Ok(())
+}
+
 /// Makes the blocks of the set that begins in zone `first` equal to these, from block 1 up to block
-/// `end`, by writes of those that differ, and flushes.
+/// `end`, by writes of those that differ, and flushes. Each call reads up to 32 blocks of one zone.
 ///
 /// At any answer, and in what a stop leaves, each begins with the magic bytes only where it did before
 /// or where its own one does.
@@ -70,14 +108,21 @@ fn copy_blocks<D: ZonedDisk>(
         (D.view disk.old) (D.view disk.new)) }
     ensures way { Reaches (HasPartOfBlocks geometry.now first 1 end blocks.now)
         (D.view disk.old) (D.view disk.new) }
-    ensures counted { OnOk result (MadeOf (λ image. differing_from blocks.now first end image + 1)
+    ensures counted { OnOk result (MadeOf (λ image. differing_from blocks.now first 1 end image + 1)
+        (D.view disk.old) (D.view disk.new)) }
+    ensures read_calls { OnOk result (MadeReads (run_count geometry.now 1 end)
         (D.view disk.old) (D.view disk.new)) }
     ensures durable { OnOk result (IsDurable (D.view disk.new)) }
     ensures cause { Fails result (D.view disk.old) (D.view disk.new) }
 {
     let _zone_blocks = geometry.zone_blocks();
-    for i in 1..end {
-        copy_block(disk, geometry, first, i, blocks.block(i))?;
+    let mut there = [0; BLOCK * RUN_BLOCKS as usize];
+    let mut i = 1;
+    while i < end {
+        let count = run_length(geometry, i, end);
+        let run = &mut there[..BLOCK * count as usize];
+        copy_run(disk, geometry, first, i, i + count, blocks, run)?;
+        i += count;
     }
     disk.flush()
 }
@@ -97,6 +142,7 @@ fn clear_bad<D: ZonedDisk>(
         (D.view disk.old) (D.view disk.new)) }
     ensures way { Reaches (IsPartCleared geometry.now zone good) (D.view disk.old) (D.view disk.new) }
     ensures counted { OnOk result (Made (clear_calls good) (D.view disk.old) (D.view disk.new)) }
+    ensures read_calls { ReadsNone (D.view disk.old) (D.view disk.new) }
     ensures durable { OnOk result (IsDurable (D.view disk.old) →
         IsDurable (D.view disk.new)) }
     ensures cause { Fails result (D.view disk.old) (D.view disk.new) }
@@ -132,6 +178,7 @@ fn put_super<D: ZonedDisk>(disk: &mut D, geometry: &Geometry, chosen: &Chosen) -
         (D.view disk.old) (D.view disk.new)) }
     ensures way { Reaches (HasPartOfSuper geometry.now chosen.now) (D.view disk.old) (D.view disk.new) }
     ensures counted { OnOk result (Made 2 (D.view disk.old) (D.view disk.new)) }
+    ensures read_calls { ReadsNone (D.view disk.old) (D.view disk.new) }
     ensures durable { OnOk result (IsDurable (D.view disk.new)) }
     ensures cause { Fails result (D.view disk.old) (D.view disk.new) }
 {
@@ -147,8 +194,8 @@ fn put_super<D: ZonedDisk>(disk: &mut D, geometry: &Geometry, chosen: &Chosen) -
 /// differ are written, and last the super block, with the chosen fields and its own number; each of
 /// the three parts ends with a flush.
 ///
-/// Up to Ok it makes one writing call for each used block behind the first that differs, three more, and
-/// two more where the other super block is bad.
+/// Up to Ok it makes one writing call for each used block after the first that differs, three more, and
+/// two more where the other super block is bad. Each call that reads takes up to 32 blocks of one zone.
 ///
 /// After Ok a stop leaves what the disk reads as. Before, and at any answer, a stop leaves the disk
 /// changed in used blocks of the other set alone. At any answer a volume is one still, with the same
@@ -173,6 +220,9 @@ pub fn make_equal<D: ZonedDisk>(
     ensures kept { Keeps (KeepsVolume (chosen_of chosen.now)) (D.view disk.old) (D.view disk.new) }
     ensures counted { OnOk result (MadeOf (equal_calls chosen.now
         (used_blocks geometry.now chosen.now.head.layout)) (D.view disk.old) (D.view disk.new)) }
+    ensures read_calls { OnOk result (MadeReads
+        (run_count geometry.now 1 (used_blocks geometry.now chosen.now.head.layout))
+        (D.view disk.old) (D.view disk.new)) }
     ensures durable { OnOk result (IsDurable (D.view disk.new)) }
     ensures cause { Fails result (D.view disk.old) (D.view disk.new) }
 {

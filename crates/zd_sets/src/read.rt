@@ -2,16 +2,17 @@
 
 ghost use Rattle.std.specs.Prelude.{◌≡◌, ◌+◌, ◌-◌, ◌*◌, ◌/◌, ◌%◌, ◌<◌, ◌≤◌, ℕ, Some, Err, IfOk, OnOk, length};
 ghost use Rattle.zd_model.specs.Image.{block_at, set_block};
+ghost use Rattle.zd_disk.specs.Runs.{blocks_in, run_count};
 ghost use Rattle.zd_disk.specs.Told.{WhereTold};
-ghost use Rattle.zd_disk.specs.View.{Fails, HasFailed, OnlyReads};
+ghost use Rattle.zd_disk.specs.View.{Fails, HasFailed, MadeReads, OnlyReads, ReadsOnce};
 ghost use Rattle.zd_base.specs.Layout.{used_blocks};
 ghost use Rattle.zd_sets.specs.Choice.{IsPlacedChoice};
-ghost use Rattle.zd_sets.specs.Blocks.{blocks_of, AreBlocks};
+ghost use Rattle.zd_sets.specs.Blocks.{AreBlocks, AreBlocksFrom, blocks_of};
 
 use crate::{Chosen, SetBlocks};
 use std::alloc::Global;
 use zd_base::{BLOCK, Failed, Geometry, ZoneNo};
-use zd_disk::ZonedDisk;
+use zd_disk::{ZonedDisk, run_length};
 
 /// Why the blocks of a set weren't read.
 #[derive(Clone, Copy, Debug, PartialEq, Eq)]
@@ -37,6 +38,7 @@ pub fn read_block<D: ZonedDisk>(
     requires block { block < geometry.now.zone_blocks }
     requires size { length into.old ≡ 4096 }
     ensures value { OnOk result (WhereTold (D.view disk.old).zones (λ i. into.new ≡ block_at i zone block)) }
+    ensures read_calls { ReadsOnce (D.view disk.old) (D.view disk.new) }
     ensures reads { OnlyReads (D.view disk.old) (D.view disk.new) }
     ensures cause { Fails result (D.view disk.old) (D.view disk.new) }
 {
@@ -44,8 +46,11 @@ pub fn read_block<D: ZonedDisk>(
     disk.read(zone, 8 * block, into)
 }
 
-/// Reads block `i` of the set that begins in zone `first`.
-pub fn read_set_block<D: ZonedDisk>(
+/// Reads blocks of the set that begins in zone `first`, from block `i` on, all in one conventional zone, by one
+/// call of the disk.
+///
+/// `Failed` says nothing of what then stands in `into`.
+pub fn read_run<D: ZonedDisk>(
     disk: &mut D,
     geometry: &Geometry,
     first: ZoneNo,
@@ -53,38 +58,47 @@ pub fn read_set_block<D: ZonedDisk>(
     into: &mut [u8],
 ) -> Result<(), Failed>
     requires told { (D.view disk.old).told ≡ Some geometry.now }
-    requires inside { first + i / geometry.now.zone_blocks < geometry.now.conv }
-    requires size { length into.old ≡ 4096 }
+    requires whole { length into.old ≡ 4096 * blocks_in into.old }
+    requires some { 0 < blocks_in into.old }
+    requires zone { first + i / geometry.now.zone_blocks < geometry.now.conv }
+    requires within { i % geometry.now.zone_blocks + blocks_in into.old ≤ geometry.now.zone_blocks }
     ensures value { OnOk result (WhereTold (D.view disk.old).zones (λ image.
-        into.new ≡ set_block image first i)) }
+        AreBlocksFrom image first i into.new)) }
+    ensures read_calls { ReadsOnce (D.view disk.old) (D.view disk.new) }
     ensures reads { OnlyReads (D.view disk.old) (D.view disk.new) }
     ensures cause { Fails result (D.view disk.old) (D.view disk.new) }
 {
     let zone_blocks = geometry.zone_blocks();
+    let _conv = geometry.conv();
     let zone = ZoneNo(first.0 + i / zone_blocks);
-    read_block(disk, geometry, zone, i % zone_blocks, into)
+    disk.read(zone, 8 * (i % zone_blocks), into)
 }
 
-/// Reads block `i` of the set that begins in zone `first` to its place among the blocks of the set.
-fn fill_block<D: ZonedDisk>(
+/// Reads such blocks to their places among the blocks of the set.
+fn fill_run<D: ZonedDisk>(
     disk: &mut D,
     geometry: &Geometry,
     first: ZoneNo,
     i: u32,
+    count: u32,
     into: &mut [u8],
 ) -> Result<(), Failed>
     requires told { (D.view disk.old).told ≡ Some geometry.now }
-    requires inside { first + i / geometry.now.zone_blocks < geometry.now.conv }
-    requires place { 4096 * (i + 1) ≤ length into.old }
+    requires some { 0 < count }
+    requires zone { first + i / geometry.now.zone_blocks < geometry.now.conv }
+    requires within { i % geometry.now.zone_blocks + count ≤ geometry.now.zone_blocks }
+    requires place { 4096 * (i + count) ≤ length into.old }
     ensures value { OnOk result (WhereTold (D.view disk.old).zones (λ image.
-        blocks_of into.new i 1 ≡ set_block image first i)) }
+        (j : ℕ) → j < count → blocks_of into.new (i + j) 1 ≡ set_block image first (i + j))) }
     ensures before { (j : ℕ) → j < i → blocks_of into.new j 1 ≡ blocks_of into.old j 1 }
     ensures size { length into.new ≡ length into.old }
+    ensures read_calls { ReadsOnce (D.view disk.old) (D.view disk.new) }
     ensures reads { OnlyReads (D.view disk.old) (D.view disk.new) }
     ensures cause { Fails result (D.view disk.old) (D.view disk.new) }
 {
     let start = BLOCK * i as usize;
-    read_set_block(disk, geometry, first, i, &mut into[start..start + BLOCK])
+    let end = start + BLOCK * count as usize;
+    read_run(disk, geometry, first, i, &mut into[start..end])
 }
 
 /// Reads the first blocks of the set that begins in zone `first`, as many as there are in `into`.
@@ -100,17 +114,23 @@ fn fill<D: ZonedDisk>(
     requires size { length into.old ≡ 4096 * count }
     ensures value { OnOk result (WhereTold (D.view disk.old).zones (λ image.
         AreBlocks image first count into.new)) }
+    ensures read_calls { OnOk result (MadeReads (run_count geometry.now 0 count)
+        (D.view disk.old) (D.view disk.new)) }
     ensures reads { OnlyReads (D.view disk.old) (D.view disk.new) }
     ensures cause { Fails result (D.view disk.old) (D.view disk.new) }
 {
-    for i in 0..count {
-        fill_block(disk, geometry, first, i, into)?;
+    let _zone_blocks = geometry.zone_blocks();
+    let mut i = 0;
+    while i < count {
+        let run = run_length(geometry, i, count);
+        fill_run(disk, geometry, first, i, run, into)?;
+        i += run;
     }
     Ok(())
 }
 
-/// The first `count` blocks of the set that begins in zone `first`, each read by one call of the disk.
-/// They stand in conventional zones.
+/// The first `count` blocks of the set that begins in zone `first`, which stand in conventional zones. Each
+/// call reads up to 32 blocks of one zone.
 pub fn read_blocks<D: ZonedDisk>(
     alloc: Global,
     disk: &mut D,
@@ -123,6 +143,8 @@ pub fn read_blocks<D: ZonedDisk>(
     ensures size { IfOk result (λ blocks. length blocks ≡ 4096 * count) }
     ensures value { IfOk result (λ blocks. WhereTold (D.view disk.old).zones (λ image.
         AreBlocks image first count blocks)) }
+    ensures read_calls { IfOk result (λ _. MadeReads (run_count geometry.now 0 count)
+        (D.view disk.old) (D.view disk.new)) }
     ensures reads { OnlyReads (D.view disk.old) (D.view disk.new) }
     ensures cause { result ≡ Err ReadFault.Device → HasFailed (D.view disk.old) (D.view disk.new) }
 {
@@ -135,7 +157,7 @@ pub fn read_blocks<D: ZonedDisk>(
     }
 }
 
-/// The used blocks of the chosen set, each read by one call of the disk.
+/// The used blocks of the chosen set. Each call reads up to 32 blocks of one zone.
 pub fn read_set<D: ZonedDisk>(
     alloc: Global,
     disk: &mut D,
@@ -148,6 +170,9 @@ pub fn read_set<D: ZonedDisk>(
         length blocks ≡ 4096 * used_blocks geometry.now chosen.now.head.layout) }
     ensures value { IfOk result (λ blocks. WhereTold (D.view disk.old).zones (λ image.
         AreBlocks image chosen.now.zone (used_blocks geometry.now chosen.now.head.layout) blocks)) }
+    ensures read_calls { IfOk result (λ _. MadeReads
+        (run_count geometry.now 0 (used_blocks geometry.now chosen.now.head.layout))
+        (D.view disk.old) (D.view disk.new)) }
     ensures reads { OnlyReads (D.view disk.old) (D.view disk.new) }
     ensures cause { result ≡ Err ReadFault.Device → HasFailed (D.view disk.old) (D.view disk.new) }
 {
