@@ -5,7 +5,7 @@ use borrow.Author.Tests.{eqb-true}
 use Rattle.std.proofs.lemmas.List.{length-drop, get_or-drop, ext_get_or, length-replicate, get_or-replicate}
 use Rattle.zd_model.specs.Bytes.{u32_at}
 use Rattle.zd_model.specs.declared.metadata.Super.{Super}
-use Rattle.zd_model.specs.Super.{IsSuper, IsVersion, is_version, fields_end}
+use Rattle.zd_model.specs.Super.{FitsVersion, IsSuper, IsVersion, is_version, fields_end}
 
 -- a version that there is passes the test, and no other
 pub version_passes : (v : ℕ) → IsVersion v → is_version v ≡ true
@@ -49,3 +49,20 @@ zeros_from bytes at n size zeros =
     let rest : length (drop at bytes) ≡ n = length-drop at bytes ∙ omega (arith, size) in
     ext_get_or 0 (drop at bytes) (replicate n 0) (rest ∙ sym (length-replicate {A = ℕ} n 0))
     (λ i h. get_or-drop at bytes i 0 ∙ zeros (at + i) (omega arith) ∙ sym (get_or-replicate n i 0 0 (omega (arith, rest, h))))
+
+-- each head of version 2 fits its version
+pub fits_2 : (s : Super) → s.version ≡ 2 → FitsVersion s
+fits_2 s two =
+    let other : s.version ≡ 1 → ⊥ = λ one. omega (arith, one, two) in
+    record {
+      version = inr two;
+      label = λ one. absurd (other one);
+      volume = λ one. absurd (other one);
+      device = λ one. absurd (other one);
+    }
+
+-- a head fits its version whatever its generation and its place
+pub fits_elsewhere : (s : Super) (generation own : ℕ) → FitsVersion s
+    → FitsVersion (record s { generation = generation; own = own })
+fits_elsewhere s generation own h =
+    record { version = h.version; label = h.label; volume = h.volume; device = h.device }
