@@ -2,7 +2,7 @@
 use Rattle.std.proofs.Common.{◌≡◌, ◌<◌, ℕ, zero, suc, refl, ◌∙◌, arith, lit<, Some}
 use Rattle.zd_model.specs.Bytes.{zero_sector, u32_at, u64_at}
 use Rattle.zd_model.specs.Image.{block_at}
-use Rattle.zd_model.specs.Super.{block_of, decoded, has_zero_tail, behind_crc, crc_of}
+use Rattle.zd_model.specs.Super.{block_of, decoded, has_zero_tail, fields_end, behind_crc, crc_of}
 use Rattle.zd_model.specs.Volume.{chosen}
 use Rattle.zd_model.proofs.SameLaws.{same_chosen}
 use Rattle.zd_examples.specs.Fresh.{fresh_chosen}
@@ -10,7 +10,7 @@ use Rattle.zd_examples.specs.Images.{buffered_image, conventional_image, fresh_i
 use Rattle.zd_examples.specs.Images.{sequential_image}
 
 pub fresh_is : chosen fresh_image ≡ Some fresh_chosen
-unfolding zero_sector block_of decoded behind_crc crc_of u32_at u64_at has_zero_tail
+unfolding zero_sector block_of decoded behind_crc crc_of u32_at u64_at has_zero_tail fields_end
 fresh_is = refl
 
 conventional_blocks : (z : ℕ) → z < 6 → block_at conventional_image z 0 ≡ block_at fresh_image z 0

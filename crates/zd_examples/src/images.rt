@@ -6,9 +6,9 @@ ghost use Rattle.zd_model.specs.Image.{Image, IsImage, block_at, set_block};
 ghost use Rattle.zd_model.specs.Plain.{array_after};
 ghost use Rattle.zd_model.specs.Tables.{entry_at};
 ghost use Rattle.zd_model.specs.Volume.{IsWellFormed, bits_in, chosen, content, entry_in};
-ghost use Rattle.zd_examples.specs.Fresh.{fresh_chosen, unmapped};
+ghost use Rattle.zd_examples.specs.Fresh.{fresh_chosen, unmapped_entry};
 ghost use Rattle.zd_examples.specs.Images.{buffered_image, conventional_image, fresh_image};
-ghost use Rattle.zd_examples.specs.Images.{image_of};
+ghost use Rattle.zd_examples.specs.Images.{uniform_image};
 ghost use Rattle.zd_examples.specs.Images.{large_image, places, sequential_image, shared_zone};
 ghost use Rattle.zd_examples.specs.Images.{large_chosen, spare_chosen, spare_image, twice_valid};
 ghost use Rattle.zd_examples.specs.Choices.{at_zone, beginning, second_at};
@@ -29,12 +29,12 @@ pub fn place_examples()
 /// Conventional zones are full, sequential ones are held up to a pointer in them, and sectors are
 /// 512 bytes.
 pub fn image_examples()
-    ensures blank { IsImage (image_of 128 0 zero_sector) }
-    ensures full { IsImage (image_of 128 128 zero_sector) }
-    ensures past { IsImage (image_of 128 129 zero_sector) → ⊥ }
-    ensures not_full { IsImage (image_of 127 0 zero_sector) → ⊥ }
-    ensures short { IsImage (image_of 128 0 (replicate 511 0)) → ⊥ }
-    ensures no_byte { IsImage (image_of 128 0 (256 ∷ replicate 511 0)) → ⊥ }
+    ensures blank { IsImage (uniform_image 128 0 zero_sector) }
+    ensures full { IsImage (uniform_image 128 128 zero_sector) }
+    ensures past { IsImage (uniform_image 128 129 zero_sector) → ⊥ }
+    ensures not_full { IsImage (uniform_image 127 0 zero_sector) → ⊥ }
+    ensures short { IsImage (uniform_image 128 0 (replicate 511 0)) → ⊥ }
+    ensures no_byte { IsImage (uniform_image 128 0 (256 ∷ replicate 511 0)) → ⊥ }
 {}
 
 /// Sets are chosen in images of whole blocks.
@@ -56,7 +56,7 @@ pub fn content_examples()
         ≡ array_after zero_volume (What.Write 0 1 1) }
     ensures buffered { content buffered_image fresh_chosen
         ≡ array_after (array_after zero_volume (What.Write 0 1 1)) (What.Write 3 1 7) }
-    ensures entry { entry_in fresh_image fresh_chosen 7 ≡ unmapped }
+    ensures entry { entry_in fresh_image fresh_chosen 7 ≡ unmapped_entry }
 {}
 
 /// Images that follow all rules. A pointer may stand inside a block behind the last valid one, and

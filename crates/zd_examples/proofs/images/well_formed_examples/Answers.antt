@@ -1,6 +1,6 @@
 use Rattle.std.proofs.Common.{◌≡◌, ℕ, Bool, true, false, List, [], Some, None, refl, arith, lit≤, lit<}
 use Rattle.zd_model.specs.Bytes.{u32_at, u64_at, zero_sector}
-use Rattle.zd_model.specs.Super.{decoded, crc_of, has_zero_tail}
+use Rattle.zd_model.specs.Super.{decoded, crc_of, has_zero_tail, fields_end}
 use Rattle.zd_examples.specs.Blocks.{short_block}
 use Rattle.zd_model.specs.Faults.{bad_bit, bad_chunk}
 use Rattle.zd_model.specs.Tables.{MapFollowsRules}
@@ -63,7 +63,7 @@ unfolding zero_sector u32_at
 spare_tables = map_follows small spare_layout (tables_of spare_image spare_chosen).entries refl
 
 pub returns-clause-spare_magic : goal.returns-clause-spare_magic
-unfolding short_block decoded crc_of has_zero_tail zero_sector u32_at u64_at
+unfolding short_block decoded crc_of has_zero_tail fields_end zero_sector u32_at u64_at
 returns-clause-spare_magic c = record {
   is_chosen = refl;
   layout = record {
