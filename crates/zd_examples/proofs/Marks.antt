@@ -26,10 +26,10 @@ within : (b : Bool) (i h : ℕ) → i < 128 → h ≤ 128 → cond b (max h (i +
 within true i h inside low = omega arith
 within false i h inside low = low
 
-conventional_held : (z : ℕ) → z < 6 → cond (ltb z 6) 128 0 ≡ 128
+conventional_held : (z : ℕ) → z < 6 → empty_disk.held z ≡ 128
 conventional_held z low = rw (lt-ltb z 6 low) refl
 
-sequential_held : (z : ℕ) → 6 ≤ z → cond (ltb z 6) 128 0 ≤ 128
+sequential_held : (z : ℕ) → 6 ≤ z → empty_disk.held z ≤ 128
 sequential_held z far = rw (le-ltb z 6 far) (lit≤ tt)
 
 -- the empty disk, and one with a mark
