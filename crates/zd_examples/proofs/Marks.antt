@@ -1,17 +1,13 @@
 -- What a stop may leave of the examples' disk, in which sectors are marked.
-use Rattle.std.proofs.Common.{◌≡◌, ◌≢◌, ℕ, ◌+◌, ◌<◌, ◌≤◌, max, Bool, true, false, cond, eqb, ltb, List, [], ◌∷◌, length, take}
+use Rattle.std.proofs.Common.{◌≡◌, ◌≢◌, ℕ, ◌+◌, ◌<◌, ◌≤◌, max, Bool, true, false, cond, eqb, List, [], ◌∷◌, length, take}
 use Rattle.std.proofs.Common.{inl, inr, refl, sym, subst, arith, lit≤}
 use Rattle.std.specs.Prelude.{◌&&◌}
 use borrow.Author.Tests.{lt-ltb, le-ltb}
-use Rattle.std.proofs.lemmas.Bool.{cases_eq}
-use Rattle.zd_base.specs.Geometry.{Shape}
 use Rattle.zd_model.specs.Bytes.{IsSector}
 use Rattle.zd_model.specs.Image.{Image, IsImage, SameZone}
-use Rattle.zd_model.specs.Left.{Event, apply, replay, on_zone, IsPut, IsStop}
-use Rattle.zd_model.specs.Left.Event.{Put}
+use Rattle.zd_model.specs.Left.{Event, replay, on_zone, IsPut, IsStop}
 use Rattle.zd_model.proofs.EventLaws.{geometry-replay, one_zone, one_zone_same, other_test, replay_values, replay_zone}
 use Rattle.zd_model.proofs.SectorLaws.{pattern-sector, zero_sector-sector}
-use Rattle.zd_examples.specs.Fresh.{small}
 use Rattle.zd_examples.specs.Remains.{empty_disk, mark, marked}
 
 either_sector : (b : Bool) (v w : List ℕ) → IsSector v → IsSector w → IsSector (cond b v w)
@@ -52,7 +48,7 @@ marked_image z i inside = record {
 pub may_leave : (flushed : Image) (events some : List Event) → IsImage (replay flushed some)
     → ((z i : ℕ) (v : List ℕ) → IsPut some z i v → IsPut events z i v)
     → ((z : ℕ) → flushed.geometry.conv ≤ z → (n : ℕ)
-        × (n ≤ length (on_zone z events)) × (on_zone z some ≡ take n (on_zone z events)))
+    × (n ≤ length (on_zone z events)) × (on_zone z some ≡ take n (on_zone z events)))
     → IsStop flushed events (replay flushed some)
 may_leave flushed events some image put part = record {
   image = image;
@@ -64,7 +60,7 @@ may_leave flushed events some image put part = record {
   sequential = λ z far.
       let first = part z far in
       let own = one_zone_same (replay flushed (on_zone z some)) (replay flushed some) z
-          (replay_zone flushed flushed z some (one_zone flushed z)) in
+      (replay_zone flushed flushed z some (one_zone flushed z)) in
       (first.0, first.1, subst (λ (l : List Event). SameZone (replay flushed l) (replay flushed some) z) first.2 own);
 }
 

@@ -4,8 +4,9 @@ use Rattle.zd_model.specs.Bytes.{zero_sector}
 use Rattle.zd_model.specs.Image.{Image}
 use Rattle.zd_model.specs.Left.{Call, Event, replay}
 use Rattle.zd_model.specs.Left.Call.{Does, Flushes}
-use Rattle.zd_model.specs.Left.Event.{Put}
+use Rattle.zd_model.specs.Left.Event.{Clear, Put}
 use Rattle.zd_model.specs.Plain.{pattern}
+use Rattle.zd_examples.specs.Fresh.{small}
 use Rattle.zd_examples.specs.Images.{uniform_image}
 
 -- conventional zones of zeros, and nothing in the sequential ones
@@ -19,6 +20,18 @@ mark zone i = Put zone i (pattern 1 i)
 -- the disk in which these sectors are marked
 abbrev pub marked : List Event → Image
 marked events = replay empty_disk events
+
+-- the pointer of the last zone stands after one sector, which has the value that it had
+abbrev pub pointer_moved : Image
+pointer_moved = replay empty_disk (Put 11 0 zero_sector ∷ [])
+
+-- the last zone was marked, and then reset: a value stands past its pointer
+abbrev pub marked_and_reset : Image
+marked_and_reset = marked (mark 11 0 ∷ Clear 11 ∷ [])
+
+-- a disk of one sequential zone more
+abbrev pub one_zone_more : Image
+one_zone_more = record empty_disk { geometry = record small { seq = 7 } }
 
 -- a write of one sector
 abbrev pub mark_call : ℕ → ℕ → Call

@@ -6,10 +6,13 @@ ghost use Rattle.zd_model.specs.Image.{Image, IsImage, block_at, set_block};
 ghost use Rattle.zd_model.specs.Plain.{array_after};
 ghost use Rattle.zd_model.specs.Tables.{entry_at};
 ghost use Rattle.zd_model.specs.Volume.{IsWellFormed, bits_in, chosen, content, entry_in};
-ghost use Rattle.zd_examples.specs.Fresh.{fresh_chosen, unmapped_entry};
+ghost use Rattle.zd_examples.specs.Fresh.{bare_chosen, fresh_chosen, unmapped_entry};
 ghost use Rattle.zd_examples.specs.Images.{buffered_image, conventional_image, fresh_image};
 ghost use Rattle.zd_examples.specs.Images.{uniform_image};
 ghost use Rattle.zd_examples.specs.Images.{large_image, places, sequential_image, shared_zone};
+ghost use Rattle.zd_examples.specs.Blocks.{fresh_front};
+ghost use Rattle.zd_examples.specs.Images.{bare_image, last_zone_image, three_first, three_second};
+ghost use Rattle.zd_examples.specs.Images.{three_zones};
 ghost use Rattle.zd_examples.specs.Images.{large_chosen, spare_chosen, spare_image, twice_valid};
 ghost use Rattle.zd_examples.specs.Choices.{at_zone, beginning, second_at};
 ghost use Rattle.zd_examples.specs.Layouts.{large, large_layout};
@@ -43,6 +46,7 @@ pub fn chosen_examples()
     ensures conventional { chosen conventional_image ≡ Some fresh_chosen }
     ensures sequential { chosen (sequential_image 8) ≡ Some fresh_chosen }
     ensures buffered { chosen buffered_image ≡ Some fresh_chosen }
+    ensures last_zone { chosen (last_zone_image 8) ≡ Some fresh_chosen }
 {}
 
 /// Contents are those of a plain array after the writes.
@@ -54,6 +58,9 @@ pub fn content_examples()
         ≡ array_after zero_volume (What.Write 0 1 1) }
     ensures stray { content (sequential_image 11) fresh_chosen
         ≡ array_after zero_volume (What.Write 0 1 1) }
+    ensures last_zone { content (last_zone_image 8) fresh_chosen
+        ≡ array_after zero_volume (What.Write 0 1 1) }
+    ensures bare { content bare_image bare_chosen ≡ zero_volume }
     ensures buffered { content buffered_image fresh_chosen
         ≡ array_after (array_after zero_volume (What.Write 0 1 1)) (What.Write 3 1 7) }
     ensures entry { entry_in fresh_image fresh_chosen 7 ≡ unmapped_entry }
@@ -68,12 +75,23 @@ pub fn well_formed_examples()
     ensures stray { IsWellFormed (sequential_image 11) fresh_chosen }
     ensures buffered { IsWellFormed buffered_image fresh_chosen }
     ensures spare_magic { IsWellFormed spare_image spare_chosen }
+    ensures last_zone { IsWellFormed (last_zone_image 8) fresh_chosen }
+    ensures bare { IsWellFormed bare_image bare_chosen }
+{}
+
+/// Sets of three zones. Where super block 0 is good, a block of the set may begin with the magic
+/// bytes, also in the third zone; where it is bad, such a block could be taken for a super block.
+pub fn three_zone_examples()
+    ensures good { IsWellFormed (three_zones 0 fresh_front) three_first }
+    ensures bad { IsWellFormed (three_zones 3 fresh_front) three_second → ⊥ }
+    ensures clean { IsWellFormed (three_zones 3 []) three_second }
 {}
 
 /// Images that break one: a valid block that the pointer cuts, a block that is valid twice, a zone
 /// that two chunks name, and a second set in whose zones another super block may begin.
 pub fn ill_formed_examples()
     ensures cut { IsWellFormed (sequential_image 7) fresh_chosen → ⊥ }
+    ensures cut_last { IsWellFormed (last_zone_image 7) fresh_chosen → ⊥ }
     ensures twice { IsWellFormed twice_valid fresh_chosen → ⊥ }
     ensures shared { IsWellFormed shared_zone fresh_chosen → ⊥ }
     ensures other_magic { IsWellFormed

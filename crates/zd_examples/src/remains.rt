@@ -2,10 +2,22 @@
 //! empty, and sectors that are written with one pattern.
 
 ghost use Rattle.std.specs.Prelude.{[], ◌∷◌};
+ghost use Rattle.zd_model.specs.Image.{Same};
 ghost use Rattle.zd_model.specs.Left.{IsLeft};
 ghost use Rattle.zd_examples.specs.Remains.{both_zones, empty_disk, first_zone_twice, flush_and_write};
-ghost use Rattle.zd_examples.specs.Remains.{half_call, mark, mark_call, marked, write_and_fault};
+ghost use Rattle.zd_examples.specs.Remains.{half_call, mark, mark_call, marked, marked_and_reset};
+ghost use Rattle.zd_examples.specs.Remains.{one_zone_more, pointer_moved, write_and_fault};
 ghost use Rattle.zd_examples.specs.Remains.{write_and_flush};
+
+/// Images are the same that hold the same. The last sector counts and the pointer counts, and what
+/// stands past a pointer doesn't.
+pub fn same_examples()
+    ensures past { Same empty_disk marked_and_reset }
+    ensures last_sector { Same empty_disk (marked (mark 5 127 ∷ [])) → ⊥ }
+    ensures pointer { Same empty_disk pointer_moved → ⊥ }
+    ensures pointer_back { Same pointer_moved empty_disk → ⊥ }
+    ensures geometry { Same empty_disk one_zone_more → ⊥ }
+{}
 
 /// The call that is under way may have happened, whole or not; the one after it may not.
 pub fn under_way_examples()

@@ -51,3 +51,11 @@ returns-clause-sequential c = refl
 pub returns-clause-no_size : goal.returns-clause-no_size
 unfolding short_block decoded crc_of has_zero_tail fields_end u32_at u64_at
 returns-clause-no_size c = refl
+
+pub returns-clause-newer_in_2 : goal.returns-clause-newer_in_2
+unfolding short_block decoded crc_of has_zero_tail fields_end u32_at u64_at
+returns-clause-newer_in_2 c = refl
+
+pub returns-clause-newer_in_1 : goal.returns-clause-newer_in_1
+unfolding short_block decoded crc_of has_zero_tail fields_end u32_at u64_at
+returns-clause-newer_in_1 c = refl
