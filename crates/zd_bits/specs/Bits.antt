@@ -37,7 +37,7 @@ pub record IsFirstValid (bits : List ℕ) (from end n : ℕ) : Type 0 where
   pub before : AllAre false bits from n
 
 -- from `from` on stand exactly so many blocks with this bit, before `end` or a block that differs
-pub record IsRun (bits : List ℕ) (from end : ℕ) (bit : Bool) (count : ℕ) : Type 0 where
+pub record IsBitRun (bits : List ℕ) (from end : ℕ) (bit : Bool) (count : ℕ) : Type 0 where
   pub some : 0 < count
   pub inside : from + count ≤ end
   pub same : AllAre bit bits from (from + count)

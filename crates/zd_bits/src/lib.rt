@@ -9,7 +9,7 @@
 ghost use Rattle.std.specs.Prelude.{◌≡◌, ◌+◌, ◌*◌, ◌<◌, ◌≤◌, ◌↔◌, length, true, false, IsTrue};
 ghost use Rattle.std.specs.Prelude.{IfNone, IfSome};
 ghost use Rattle.zd_model.specs.Tables.{is_set};
-ghost use Rattle.zd_bits.specs.Bits.{AllAre, SomeIs, GivesOnly, IsFirst, IsFirstValid, IsRun};
+ghost use Rattle.zd_bits.specs.Bits.{AllAre, SomeIs, GivesOnly, IsFirst, IsFirstValid, IsBitRun};
 ghost use Rattle.zd_bits.specs.Bits.{weight_of};
 
 mod put;
@@ -64,7 +64,7 @@ pub fn first_valid(bits: &[u8], from: u32, end: u32) -> Option<u32>
 pub fn run_at(bits: &[u8], from: u32, end: u32) -> (bool, u32)
     requires some { from < end }
     requires inside { end ≤ 8 * length bits.now }
-    ensures { IsRun bits.now from end result.0 result.1 }
+    ensures { IsBitRun bits.now from end result.0 result.1 }
 {
     let bit = valid(bits, from);
     (bit, first_with(bits, from, end, !bit) - from)

@@ -1,3 +1,4 @@
 pub mod Seeds
+pub mod Marks
 pub mod Forms
 pub mod Chosen

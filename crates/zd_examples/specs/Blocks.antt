@@ -20,6 +20,7 @@ fresh_front =
 -- a head whose bytes are all different: 1 to 32, 33 to 48, 49 to 64
 abbrev pub named_head : Super
 named_head = record {
+  version = 2;
   generation = 1;
   own = 0;
   layout = fresh_layout;
@@ -27,6 +28,19 @@ named_head = record {
   volume = range_with_len 33 16;
   device = range_with_len 49 16;
 }
+
+-- these heads with a byte in the label, with an identifier, with another version
+abbrev pub labelled : Super → Super
+labelled s = record s { label = 1 ∷ replicate 31 0 }
+
+abbrev pub identified : Super → Super
+identified s = record s { volume = replicate 15 0 ++ 1 ∷ [] }
+
+abbrev pub with_device : Super → Super
+with_device s = record s { device = replicate 15 0 ++ 1 ∷ [] }
+
+abbrev pub of_version : ℕ → Super
+of_version version = record (fresh_head 0) { version = version }
 
 -- a super block that is cut short behind these bytes. Its crc is soon computed, and no definition
 -- looks at its length

@@ -5,7 +5,7 @@ use Rattle.zd_model.specs.Bytes.{overwrite}
 use Rattle.zd_model.specs.Image.{Image}
 use Rattle.zd_model.specs.Volume.{Chosen}
 use Rattle.zd_examples.specs.Blocks.{short_block}
-use Rattle.zd_examples.specs.Fresh.{fresh_layout, head, small}
+use Rattle.zd_examples.specs.Fresh.{bare_head, fresh_layout, head, small}
 
 -- the image whose zones begin with these blocks
 abbrev pub beginning : List (List ℕ) → Image
@@ -46,3 +46,7 @@ second_at zone blocks generation = record {
   other = 0;
   head = head generation (16 * zone) (of_blocks blocks);
 }
+
+-- set 1 in zone 1, in version 1
+abbrev pub second_bare : ℕ → Chosen
+second_bare generation = record { set = 1; first = 1; other = 0; head = bare_head generation 16 }

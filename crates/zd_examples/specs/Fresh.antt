@@ -35,6 +35,7 @@ fresh_device =
 -- a head with this generation, own number and layout
 abbrev pub head : ℕ → ℕ → Layout → Super
 head generation own layout = record {
+  version = 2;
   generation = generation;
   own = own;
   layout = layout;
@@ -47,9 +48,24 @@ head generation own layout = record {
 abbrev pub fresh_head : ℕ → Super
 fresh_head own = head 1 own fresh_layout
 
+-- those of the same volume in version 1, with this generation
+abbrev pub bare_head : ℕ → ℕ → Super
+bare_head generation own = record {
+  version = 1;
+  generation = generation;
+  own = own;
+  layout = fresh_layout;
+  label = replicate 32 0;
+  volume = replicate 16 0;
+  device = replicate 16 0;
+}
+
 -- set 0 is the chosen one
 abbrev pub fresh_chosen : Chosen
 fresh_chosen = record { set = 0; first = 0; other = 1; head = fresh_head 0 }
+
+abbrev pub bare_chosen : Chosen
+bare_chosen = record { set = 0; first = 0; other = 1; head = bare_head 1 0 }
 
 -- entries with a zone alone, with a buffer too, and with neither
 abbrev pub only : ℕ → MapEntry
@@ -58,5 +74,5 @@ only zone = record { zone = Some zone; buffer = None }
 abbrev pub buffered : ℕ → ℕ → MapEntry
 buffered zone buffer = record { zone = Some zone; buffer = Some buffer }
 
-abbrev pub unmapped : MapEntry
-unmapped = record { zone = None; buffer = None }
+abbrev pub unmapped_entry : MapEntry
+unmapped_entry = record { zone = None; buffer = None }

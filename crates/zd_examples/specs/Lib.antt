@@ -10,3 +10,4 @@ pub mod Layouts
 pub mod Tables
 pub mod Choices
 pub mod Images
+pub mod Remains

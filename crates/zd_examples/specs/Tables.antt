@@ -2,7 +2,7 @@
 use Rattle.std.specs.Prelude.{ℕ, List, [], ◌∷◌, ◌++◌, None, Some, replicate}
 use Rattle.zd_model.specs.Tables.{Tables}
 use Rattle.zd_model.specs.declared.metadata.MapEntry.{MapEntry}
-use Rattle.zd_examples.specs.Fresh.{buffered, only, unmapped}
+use Rattle.zd_examples.specs.Fresh.{buffered, only, unmapped_entry}
 
 -- a buffer that stands alone
 abbrev pub buffer_alone : ℕ → MapEntry
@@ -33,10 +33,10 @@ two_unnamed = record {
 -- first and last blocks valid
 abbrev pub served_tables : Tables
 served_tables = record {
-  entries = buffered 6 4 ∷ unmapped ∷ only 2 ∷ [];
+  entries = buffered 6 4 ∷ unmapped_entry ∷ only 2 ∷ [];
   bits = [] ∷ [] ∷ (1 ∷ 0x80 ∷ []) ∷ [] ∷ (8 ∷ []) ∷ [] ∷ (1 ∷ []) ∷ [];
 }
 
 -- sectors that tell their place: the zone, and the number in it
-abbrev pub place_of : ℕ → ℕ → List ℕ
-place_of zone i = zone ∷ i ∷ []
+abbrev pub place_sector : ℕ → ℕ → List ℕ
+place_sector zone i = zone ∷ i ∷ []

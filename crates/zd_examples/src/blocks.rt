@@ -5,12 +5,13 @@ ghost use Rattle.std.specs.Prelude.{codes, length, map, replicate, take};
 ghost use Rattle.std.specs.List.{range_with_len};
 ghost use Rattle.zd_model.specs.Bytes.{u32_at, u64_at, sectors_of};
 ghost use Rattle.zd_model.specs.Crc.{crc32_le};
-ghost use Rattle.zd_model.specs.Super.{before_crc, behind_crc, block_of, decoded};
+ghost use Rattle.zd_model.specs.Super.{FitsVersion, before_crc, behind_crc, block_of, decoded};
 ghost use Rattle.zd_model.specs.Tables.{entry_at, is_set, named};
-ghost use Rattle.zd_examples.specs.Fresh.{fresh_head, head, fresh_layout, only, buffered, unmapped};
+ghost use Rattle.zd_examples.specs.Fresh.{bare_head, buffered, fresh_head, fresh_layout, head, only};
+ghost use Rattle.zd_examples.specs.Fresh.{unmapped_entry};
 ghost use Rattle.zd_examples.specs.Blocks.{fresh_front, named_head, short_block, short_with};
 ghost use Rattle.zd_examples.specs.Blocks.{short_crc, with_tail, first_tail, last_tail, with_byte};
-ghost use Rattle.zd_examples.specs.Blocks.{map_bytes};
+ghost use Rattle.zd_examples.specs.Blocks.{identified, labelled, map_bytes, of_version, with_device};
 
 use zd_model::NotSuper;
 
@@ -48,7 +49,8 @@ pub fn refused_block_examples()
         ≡ Ok (head (2 ^ 33 + 5) 16 fresh_layout) }
     ensures nothing { decoded (replicate 120 0) ≡ Err NotSuper.Magic }
     ensures magic { decoded (with_byte 3 0) ≡ Err NotSuper.Magic }
-    ensures version { decoded (with_byte 4 1) ≡ Err NotSuper.Version }
+    ensures version { decoded (with_byte 4 3) ≡ Err NotSuper.Version }
+    ensures other_version { decoded (with_byte 4 1) ≡ Err NotSuper.Crc }
     ensures crc { decoded (with_byte 44 0) ≡ Err NotSuper.Crc }
     ensures label { decoded (with_byte 48 1) ≡ Err NotSuper.Crc }
     ensures unsigned { decoded (with_byte 119 1) ≡ Err NotSuper.Crc }
@@ -56,12 +58,38 @@ pub fn refused_block_examples()
     ensures tail_ends { decoded (with_tail last_tail) ≡ Err NotSuper.Tail }
 {}
 
+/// Super blocks of version 1 have the same numbers and crc, and zeros after them: a byte where
+/// version 2 has its label or an identifier is refused.
+pub fn version_examples()
+    ensures first { u32_at (block_of (bare_head 1 0)) 44 ≡ 0x206fa746 }
+    ensures second { u32_at (block_of (bare_head 1 16)) 44 ≡ 0x9eb90720 }
+    ensures front { take 8 (before_crc (bare_head 1 0))
+        ≡ 0x44 ∷ 0x42 ∷ 0x5a ∷ 0x44 ∷ 1 ∷ 0 ∷ 0 ∷ 0 ∷ [] }
+    ensures decoded { decoded (short_block (bare_head 1 0)) ≡ Ok (bare_head 1 0) }
+    ensures label { decoded (short_block (labelled (bare_head 1 0))) ≡ Err NotSuper.Tail }
+    ensures device { decoded (short_block (with_device (bare_head 1 0))) ≡ Err NotSuper.Tail }
+    ensures named { decoded (short_block (labelled (fresh_head 0))) ≡ Ok (labelled (fresh_head 0)) }
+    ensures none { decoded (short_block (of_version 0)) ≡ Err NotSuper.Version }
+    ensures third { decoded (short_block (of_version 3)) ≡ Err NotSuper.Version }
+{}
+
+/// Which heads fit their version, and so have a super block.
+pub fn fit_version_examples()
+    ensures bare { FitsVersion (bare_head 7 16) }
+    ensures named { FitsVersion named_head }
+    ensures label { FitsVersion (labelled (bare_head 1 0)) → ⊥ }
+    ensures volume { FitsVersion (identified (bare_head 1 0)) → ⊥ }
+    ensures device { FitsVersion (with_device (bare_head 1 0)) → ⊥ }
+    ensures none { FitsVersion (of_version 0) → ⊥ }
+    ensures third { FitsVersion (of_version 3) → ⊥ }
+{}
+
 /// Entries of a map block, and bits of a bitmap.
 #[tactic(auto, unfolding(zd_model::specs::Bytes::u32_at))]
 pub fn table_examples()
     ensures buffered { entry_at map_bytes 0 ≡ buffered 6 4 }
     ensures mapped { entry_at map_bytes 1 ≡ only 5 }
-    ensures unmapped { entry_at map_bytes 2 ≡ unmapped }
+    ensures unmapped { entry_at map_bytes 2 ≡ unmapped_entry }
     ensures zone_zero { named 0 ≡ Some 0 }
     ensures greatest { named 0xFFFFFFFE ≡ Some 0xFFFFFFFE }
     ensures nothing { named 0xFFFFFFFF ≡ None }

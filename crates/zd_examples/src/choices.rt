@@ -3,9 +3,12 @@
 ghost use Rattle.std.specs.Prelude.{◌≡◌, [], ◌∷◌, None, Some};
 ghost use Rattle.zd_model.specs.Volume.{chosen};
 ghost use Rattle.zd_examples.specs.Choices.{at_zone, beginning, first_of, second_at, spoilt};
-ghost use Rattle.zd_examples.specs.Choices.{without_magic};
+ghost use Rattle.zd_examples.specs.Blocks.{short_block};
+ghost use Rattle.zd_examples.specs.Choices.{second_bare, without_magic};
+ghost use Rattle.zd_examples.specs.Fresh.{bare_head};
 
-/// Where super block 0 is good, the greater generation of two sets of one size is chosen.
+/// Where super block 0 is good, the greater generation of two sets of one size is chosen, whatever
+/// their versions.
 pub fn two_set_examples()
     ensures tie { chosen (beginning (at_zone 0 14 3 ∷ at_zone 1 14 3 ∷ []))
         ≡ Some (first_of 14 3 1) }
@@ -13,6 +16,10 @@ pub fn two_set_examples()
         ≡ Some (second_at 1 14 4) }
     ensures older { chosen (beginning (at_zone 0 14 3 ∷ at_zone 1 14 2 ∷ []))
         ≡ Some (first_of 14 3 1) }
+    ensures newer_in_2 { chosen (beginning (short_block (bare_head 3 0) ∷ at_zone 1 14 4 ∷ []))
+        ≡ Some (second_at 1 14 4) }
+    ensures newer_in_1 { chosen (beginning (at_zone 0 14 3 ∷ short_block (bare_head 4 16) ∷ []))
+        ≡ Some (second_bare 4) }
     ensures larger { chosen (beginning (at_zone 0 14 3 ∷ at_zone 1 17 4 ∷ []))
         ≡ Some (first_of 14 3 1) }
     ensures as_large { chosen (beginning (at_zone 0 14 3 ∷ at_zone 1 16 4 ∷ []))

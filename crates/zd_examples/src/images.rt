@@ -6,10 +6,13 @@ ghost use Rattle.zd_model.specs.Image.{Image, IsImage, block_at, set_block};
 ghost use Rattle.zd_model.specs.Plain.{array_after};
 ghost use Rattle.zd_model.specs.Tables.{entry_at};
 ghost use Rattle.zd_model.specs.Volume.{IsWellFormed, bits_in, chosen, content, entry_in};
-ghost use Rattle.zd_examples.specs.Fresh.{fresh_chosen, unmapped};
+ghost use Rattle.zd_examples.specs.Fresh.{bare_chosen, fresh_chosen, unmapped_entry};
 ghost use Rattle.zd_examples.specs.Images.{buffered_image, conventional_image, fresh_image};
-ghost use Rattle.zd_examples.specs.Images.{image_of};
+ghost use Rattle.zd_examples.specs.Images.{uniform_image};
 ghost use Rattle.zd_examples.specs.Images.{large_image, places, sequential_image, shared_zone};
+ghost use Rattle.zd_examples.specs.Blocks.{fresh_front};
+ghost use Rattle.zd_examples.specs.Images.{bare_image, last_zone_image, three_first, three_second};
+ghost use Rattle.zd_examples.specs.Images.{three_zones};
 ghost use Rattle.zd_examples.specs.Images.{large_chosen, spare_chosen, spare_image, twice_valid};
 ghost use Rattle.zd_examples.specs.Choices.{at_zone, beginning, second_at};
 ghost use Rattle.zd_examples.specs.Layouts.{large, large_layout};
@@ -29,12 +32,12 @@ pub fn place_examples()
 /// Conventional zones are full, sequential ones are held up to a pointer in them, and sectors are
 /// 512 bytes.
 pub fn image_examples()
-    ensures blank { IsImage (image_of 128 0 zero_sector) }
-    ensures full { IsImage (image_of 128 128 zero_sector) }
-    ensures past { IsImage (image_of 128 129 zero_sector) → ⊥ }
-    ensures not_full { IsImage (image_of 127 0 zero_sector) → ⊥ }
-    ensures short { IsImage (image_of 128 0 (replicate 511 0)) → ⊥ }
-    ensures no_byte { IsImage (image_of 128 0 (256 ∷ replicate 511 0)) → ⊥ }
+    ensures blank { IsImage (uniform_image 128 0 zero_sector) }
+    ensures full { IsImage (uniform_image 128 128 zero_sector) }
+    ensures past { IsImage (uniform_image 128 129 zero_sector) → ⊥ }
+    ensures not_full { IsImage (uniform_image 127 0 zero_sector) → ⊥ }
+    ensures short { IsImage (uniform_image 128 0 (replicate 511 0)) → ⊥ }
+    ensures no_byte { IsImage (uniform_image 128 0 (256 ∷ replicate 511 0)) → ⊥ }
 {}
 
 /// Sets are chosen in images of whole blocks.
@@ -43,6 +46,7 @@ pub fn chosen_examples()
     ensures conventional { chosen conventional_image ≡ Some fresh_chosen }
     ensures sequential { chosen (sequential_image 8) ≡ Some fresh_chosen }
     ensures buffered { chosen buffered_image ≡ Some fresh_chosen }
+    ensures last_zone { chosen (last_zone_image 8) ≡ Some fresh_chosen }
 {}
 
 /// Contents are those of a plain array after the writes.
@@ -54,9 +58,12 @@ pub fn content_examples()
         ≡ array_after zero_volume (What.Write 0 1 1) }
     ensures stray { content (sequential_image 11) fresh_chosen
         ≡ array_after zero_volume (What.Write 0 1 1) }
+    ensures last_zone { content (last_zone_image 8) fresh_chosen
+        ≡ array_after zero_volume (What.Write 0 1 1) }
+    ensures bare { content bare_image bare_chosen ≡ zero_volume }
     ensures buffered { content buffered_image fresh_chosen
         ≡ array_after (array_after zero_volume (What.Write 0 1 1)) (What.Write 3 1 7) }
-    ensures entry { entry_in fresh_image fresh_chosen 7 ≡ unmapped }
+    ensures entry { entry_in fresh_image fresh_chosen 7 ≡ unmapped_entry }
 {}
 
 /// Images that follow all rules. A pointer may stand inside a block behind the last valid one, and
@@ -68,12 +75,23 @@ pub fn well_formed_examples()
     ensures stray { IsWellFormed (sequential_image 11) fresh_chosen }
     ensures buffered { IsWellFormed buffered_image fresh_chosen }
     ensures spare_magic { IsWellFormed spare_image spare_chosen }
+    ensures last_zone { IsWellFormed (last_zone_image 8) fresh_chosen }
+    ensures bare { IsWellFormed bare_image bare_chosen }
+{}
+
+/// Sets of three zones. Where super block 0 is good, a block of the set may begin with the magic
+/// bytes, also in the third zone; where it is bad, such a block could be taken for a super block.
+pub fn three_zone_examples()
+    ensures good { IsWellFormed (three_zones 0 fresh_front) three_first }
+    ensures bad { IsWellFormed (three_zones 3 fresh_front) three_second → ⊥ }
+    ensures clean { IsWellFormed (three_zones 3 []) three_second }
 {}
 
 /// Images that break one: a valid block that the pointer cuts, a block that is valid twice, a zone
 /// that two chunks name, and a second set in whose zones another super block may begin.
 pub fn ill_formed_examples()
     ensures cut { IsWellFormed (sequential_image 7) fresh_chosen → ⊥ }
+    ensures cut_last { IsWellFormed (last_zone_image 7) fresh_chosen → ⊥ }
     ensures twice { IsWellFormed twice_valid fresh_chosen → ⊥ }
     ensures shared { IsWellFormed shared_zone fresh_chosen → ⊥ }
     ensures other_magic { IsWellFormed

@@ -8,6 +8,7 @@ pub mod cuts;
 pub mod histories;
 pub mod images;
 pub mod layouts;
+pub mod remains;
 pub mod reports;
 pub mod requests;
 pub mod scripts;

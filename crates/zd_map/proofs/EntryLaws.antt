@@ -7,7 +7,7 @@ use Rattle.std.specs.Int.{w32, to_le_bytes, from_le_bytes}
 use Rattle.zd_model.specs.Bytes.{overwrite, u32_at}
 use Rattle.zd_model.specs.Tables.{named}
 use Rattle.zd_model.proofs.ArrayLaws.{length-overwrite, overwrite_before, overwrite_behind, overwrite_inside}
-use Rattle.zd_map.specs.Numbers.{number_of, IsZone}
+use Rattle.zd_map.specs.Numbers.{number_of, IsZoneField}
 
 -- four places that hold the same
 same_four : (xs ys : List ℕ) (k : ℕ) → length xs ≡ length ys → ((i : ℕ) → i < 4 → get_or xs (k + i) 0 ≡ get_or ys (k + i) 0)
@@ -50,18 +50,18 @@ stands xs at n fits small =
     ap (from_le_bytes w32) here ∙ from_le_bytes-to_le_bytes_4 n small
 
 -- a zone's number names it
-pub named_back : (zone : Option ℕ) → IsZone zone → named (number_of zone) ≡ zone
+pub named_back : (zone : Option ℕ) → IsZoneField zone → named (number_of zone) ≡ zone
 named_back None h = refl
 named_back (Some zone) h =
     ap (λ none. if none then None else Some zone) (ne_eqb zone 0xFFFFFFFF (λ same. omega (arith, same, h)))
 
 -- and has four bytes
-pub is_small : (zone : Option ℕ) → IsZone zone → number_of zone < 2 ^ 32
+pub is_small : (zone : Option ℕ) → IsZoneField zone → number_of zone < 2 ^ 32
 is_small None h = lit< tt
 is_small (Some zone) h = omega (arith, h)
 
 -- so it can be written and read
-pub named_there : (block xs : List ℕ) (at : ℕ) (zone : Option ℕ) → at + 4 ≤ length xs → IsZone zone
+pub named_there : (block xs : List ℕ) (at : ℕ) (zone : Option ℕ) → at + 4 ≤ length xs → IsZoneField zone
     → block ≡ overwrite xs at (to_le_bytes w32 (number_of zone)) → named (u32_at block at) ≡ zone
 named_there block xs at zone fits h is =
     ap (λ (l : List ℕ). named (u32_at l at)) is ∙ ap named (stands xs at (number_of zone) fits (is_small zone h))

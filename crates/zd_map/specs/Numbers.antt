@@ -8,12 +8,12 @@ number_of None = 0xFFFFFFFF
 number_of (Some zone) = zone
 
 -- no zone has the number that stands for none
-abbrev pub IsZone : Option ℕ → Type 0
-IsZone None = Unit {0}
-IsZone (Some zone) = zone < 0xFFFFFFFF
+abbrev pub IsZoneField : Option ℕ → Type 0
+IsZoneField None = Unit {0}
+IsZoneField (Some zone) = zone < 0xFFFFFFFF
 
 abbrev pub NamesZones : MapEntry → Type 0
-NamesZones entry = IsZone entry.zone × IsZone entry.buffer
+NamesZones entry = IsZoneField entry.zone × IsZoneField entry.buffer
 
 -- the entry of a chunk that has no zones
 abbrev pub unmapped : MapEntry

@@ -7,7 +7,7 @@
 
 ghost use Rattle.std.specs.Prelude.{◌≡◌, ◌≢◌, ◌⊎◌, ◌+◌, ◌≤◌, ◌<◌, ℕ, length};
 ghost use Rattle.std.specs.Int.{w32, to_le_bytes};
-ghost use Rattle.zd_map.specs.Numbers.{IsZone, NamesZones, number_of, unmapped};
+ghost use Rattle.zd_map.specs.Numbers.{IsZoneField, NamesZones, number_of, unmapped};
 ghost use Rattle.zd_model.specs.Bytes.{overwrite, u32_at};
 ghost use Rattle.zd_model.specs.Tables.{entry_at, named};
 
@@ -59,7 +59,7 @@ pub fn blank(out: &mut [u8])
 /// Writes the number of a zone from byte `at` on.
 fn put_zone(block: &mut [u8], at: usize, zone: Option<ZoneNo>)
     requires inside { at + 4 ≤ length block.old }
-    requires zone { IsZone zone }
+    requires zone { IsZoneField zone }
     ensures zone { named (u32_at block.new at) ≡ zone }
     ensures others { (k : ℕ) → (k + 4 ≤ at) ⊎ (at + 4 ≤ k) → u32_at block.new k ≡ u32_at block.old k }
     ensures length { length block.new ≡ length block.old }

@@ -6,7 +6,8 @@ use Rattle.std.proofs.lemmas.List.{get_or-drop}
 use Rattle.zd_model.specs.Bytes.{AreBytes, u32_at}
 use Rattle.zd_model.specs.declared.metadata.Super.{Super}
 use Rattle.zd_model.specs.declared.metadata.NotSuper.{NotSuper}
-use Rattle.zd_model.specs.Super.{IsSuper, super_at, crc_of, has_zero_tail, decoded}
+use Rattle.zd_model.specs.Super.{IsSuper, super_at, crc_of, has_zero_tail, decoded, fields_end, is_version}
+use Rattle.zd_model.proofs.TailLaws.{version_passes, passed_version}
 
 -- a test passed, where what follows it is right
 passed : (b : Bool) (r : Result Super NotSuper) (e : NotSuper) (s : Super) → cond b r (Err e) ≡ Ok s → (b ≡ true) × (r ≡ Ok s)
@@ -31,9 +32,10 @@ pub decodes : (block : List ℕ) (s : Super) → IsSuper block s → decoded blo
 unfolding decoded has_zero_tail
 decodes block s h =
     let magic = eq-eqb (u32_at block 0) 0x445A4244 h.magic in
-    let version = eq-eqb (u32_at block 4) 2 h.version in
+    let version = version_passes (u32_at block 4) h.version in
     let crc = eq-eqb (u32_at block 44) (crc_of block) h.crc in
-    let tail = zero_all (drop 112 block) (λ i. get_or-drop 112 block i 0 ∙ h.tail (112 + i) (omega arith)) in
+    let end = fields_end (u32_at block 4) in
+    let tail = zero_all (drop end block) (λ i. get_or-drop end block i 0 ∙ h.tail (end + i) (omega arith)) in
     rw (magic, version, crc, tail) (ap Ok (sym h.fields))
 
 ok_is : (s t : Super) → ◌≡◌ {A = Result Super NotSuper} (Ok s) (Ok t) → s ≡ t
@@ -44,14 +46,17 @@ pub is_decoded : (block : List ℕ) (s : Super) → AreBytes 4096 block → deco
 unfolding decoded has_zero_tail
 is_decoded block s bytes h =
     let magic = passed (eqb (u32_at block 0) 0x445A4244) _ _ s h in
-    let version = passed (eqb (u32_at block 4) 2) _ _ s magic.1 in
+    let version = passed (is_version (u32_at block 4)) _ _ s magic.1 in
     let crc = passed (eqb (u32_at block 44) (crc_of block)) _ _ s version.1 in
     let tail = passed (has_zero_tail block) _ _ s crc.1 in
+    let end = fields_end (u32_at block 4) in
     record {
       bytes = bytes;
       magic = eqb-true (u32_at block 0) 0x445A4244 magic.0;
-      version = eqb-true (u32_at block 4) 2 version.0;
+      version = passed_version (u32_at block 4) version.0;
       crc = eqb-true (u32_at block 44) (crc_of block) crc.0;
-      tail = λ i far. (let e : 112 + (i - 112) ≡ i = omega arith in ap (λ k. get_or block k 0) (sym e) ∙ sym (get_or-drop 112 block (i - 112) 0) ∙ all_zero (drop 112 block) tail.0 (i - 112));
+      tail = λ i far. (let e : end + (i - end) ≡ i = omega arith in
+          ap (λ k. get_or block k 0) (sym e) ∙ sym (get_or-drop end block (i - end) 0)
+          ∙ all_zero (drop end block) tail.0 (i - end));
       fields = sym (ok_is (super_at block) s tail.1);
     }

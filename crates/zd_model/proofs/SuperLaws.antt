@@ -1,12 +1,13 @@
 -- One record has one block, and one block has one record.
 use Rattle.std.proofs.Common.{◌≡◌, ℕ, zero, suc, ◌+◌, ◌-◌, ◌%◌, ◌^◌, ◌<◌, ◌≤◌, min, List, [], ◌∷◌, ◌++◌, take, drop, get_or, replicate, refl, sym, ap, ◌∙◌, arith, lit<, lit≤, slice_range}
-use Rattle.std.proofs.lemmas.List.{take-append-drop, drop-drop, length-take, length-drop, get_or-drop, append_cancel_right, ext_get_or, length-replicate, get_or-replicate}
+use Rattle.std.proofs.lemmas.List.{take-append-drop, drop-drop, length-take, length-drop, get_or-drop, append_cancel_right}
 use Rattle.std.proofs.lemmas.Nat.{le_bytes_4, le_bytes_8}
 use Rattle.std.specs.Int.{w32, w64, to_le_bytes}
 use Rattle.zd_model.specs.Bytes.{AreBytes, u32_at, u64_at}
 use Rattle.zd_model.specs.Crc.{crc32_le}
 use Rattle.zd_model.specs.declared.metadata.Super.{Super}
 use Rattle.zd_model.specs.Super.{IsSuper, super_at, before_crc, behind_crc, spelled, block_of, crc_of}
+use Rattle.zd_model.proofs.TailLaws.{zero_from_112, zeros_from}
 
 -- a list from `at` on, from its part up to `to` and what follows
 grow : (xs : List ℕ) (at to : ℕ) (field rest : List ℕ) → at ≤ to → slice_range xs at to ≡ field → drop to xs ≡ rest → drop at xs ≡ field ++ rest
@@ -22,7 +23,7 @@ taken_bytes (suc n) (x ∷ xs) each zero = each 0
 taken_bytes (suc n) (x ∷ xs) each (suc i) = taken_bytes n xs (λ j. each (suc j)) i
 
 module _ (block : List ℕ) (bytes : AreBytes 4096 block) where
-  part : (at to : ℕ) → to ≤ 4096 → AreBytes (to - at) (slice_range block at to)
+  pub part : (at to : ℕ) → to ≤ 4096 → AreBytes (to - at) (slice_range block at to)
   part at to le = record {
     count = let size = bytes.count in length-take (to - at) (drop at block) ∙ ap (min (to - at)) (length-drop at block) ∙ omega arith;
     each = taken_bytes (to - at) (drop at block) (λ i. rw get_or-drop (bytes.each (at + i)));
@@ -37,12 +38,12 @@ module _ (block : List ℕ) (bytes : AreBytes 4096 block) where
   eight at le = sym (le_bytes_8 (slice_range block at (at + 8)) (u64_at block at) ((part at (at + 8) le).count ∙ omega arith) ((part at (at + 8) le).each) refl)
 
   -- the fields before the crc
-  before : (magic : u32_at block 0 ≡ 0x445A4244) → (version : u32_at block 4 ≡ 2) → take 44 block ≡ before_crc (super_at block)
-  before magic version =
+  before : (magic : u32_at block 0 ≡ 0x445A4244) → take 44 block ≡ before_crc (super_at block)
+  before magic =
       append_cancel_right (take 44 block) (before_crc (super_at block)) (drop 44 block)
       (take-append-drop 44 block
       ∙ grow block 0 4 (to_le_bytes w32 0x445A4244) _ (lit≤ tt) (four 0 (lit≤ tt) ∙ ap (to_le_bytes w32) magic)
-      (grow block 4 8 (to_le_bytes w32 2) _ (lit≤ tt) (four 4 (lit≤ tt) ∙ ap (to_le_bytes w32) version)
+      (grow block 4 8 (to_le_bytes w32 (u32_at block 4)) _ (lit≤ tt) (four 4 (lit≤ tt))
       (grow block 8 16 (to_le_bytes w64 (u64_at block 8)) _ (lit≤ tt) (eight 8 (lit≤ tt))
       (grow block 16 24 (to_le_bytes w64 (u64_at block 16)) _ (lit≤ tt) (eight 16 (lit≤ tt))
       (grow block 24 28 (to_le_bytes w32 (u32_at block 24)) _ (lit≤ tt) (four 24 (lit≤ tt))
@@ -55,8 +56,7 @@ module _ (block : List ℕ) (bytes : AreBytes 4096 block) where
   behind : ((i : ℕ) → 112 ≤ i → get_or block i 0 ≡ 0) → drop 48 block ≡ behind_crc (super_at block)
   unfolding behind_crc
   behind zeros =
-      let size = bytes.count in
-      let tail : drop 112 block ≡ replicate {A = ℕ} 3984 0 = ext_get_or 0 (drop 112 block) (replicate {A = ℕ} 3984 0) (length-drop 112 block ∙ ap (λ n. n - 112) size ∙ sym (length-replicate {A = ℕ} 3984 0)) (λ i h. get_or-drop 112 block i 0 ∙ zeros (112 + i) (omega arith) ∙ sym (get_or-replicate 3984 i 0 0 (let l = length-drop 112 block in omega arith))) in
+      let tail : drop 112 block ≡ replicate {A = ℕ} 3984 0 = zeros_from block 112 3984 bytes.count zeros in
       grow block 48 80 (slice_range block 48 80) _ (lit≤ tt) refl
       (grow block 80 96 (slice_range block 80 96) _ (lit≤ tt) refl
       (grow block 96 112 (slice_range block 96 112) (replicate 3984 0) (lit≤ tt) refl tail))
@@ -65,8 +65,8 @@ module _ (block : List ℕ) (bytes : AreBytes 4096 block) where
 pub block_of_record : (block : List ℕ) (s : Super) → IsSuper block s → block ≡ block_of s
 unfolding block_of crc_of
 block_of_record block s h =
-    let front = before block h.bytes h.magic h.version in
-    let back = behind block h.bytes h.tail in
+    let front = before block h.bytes h.magic in
+    let back = behind block h.bytes (zero_from_112 block s h) in
     let field : slice_range block 44 48 ≡ to_le_bytes w32 (u32_at block 44) = four block h.bytes 44 (lit≤ tt) in
     let crc : u32_at block 44 ≡ crc32_le (u64_at block 8 % 2 ^ 32) (spelled (super_at block) 0) = h.crc ∙ ap (λ (xs : List ℕ). crc32_le (u64_at block 8 % 2 ^ 32) (xs ++ 0 ∷ 0 ∷ 0 ∷ 0 ∷ [] ++ drop 48 block)) front ∙ ap (λ (xs : List ℕ). crc32_le (u64_at block 8 % 2 ^ 32) (before_crc (super_at block) ++ 0 ∷ 0 ∷ 0 ∷ 0 ∷ [] ++ xs)) back in
     let whole : block ≡ take 44 block ++ (slice_range block 44 48 ++ drop 48 block) = sym (take-append-drop 44 block) ∙ ap (λ xs. take 44 block ++ xs) (grow block 44 48 (slice_range block 44 48) (drop 48 block) (lit≤ tt) refl refl) in

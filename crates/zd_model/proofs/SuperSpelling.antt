@@ -1,12 +1,12 @@
 -- What a record spells is its block.
-use Rattle.std.proofs.Common.{◌≡◌, ℕ, zero, suc, ◌+◌, ◌-◌, ◌%◌, ◌^◌, ◌<◌, ◌≤◌, List, [], ◌∷◌, ◌++◌, take, drop, get_or, replicate, refl, sym, ap, ◌∙◌, arith, lit<, slice_range}
+use Rattle.std.proofs.Common.{◌≡◌, ℕ, zero, suc, ◌+◌, ◌-◌, ◌%◌, ◌^◌, ◌<◌, ◌≤◌, List, [], ◌∷◌, ◌++◌, take, drop, get_or, replicate, refl, sym, ap, ◌∙◌, arith, lit<, slice_range, subst, inl, inr}
 use Rattle.std.proofs.lemmas.List.{length-append, take_at, drop_at, drop-drop, get_or-drop, length-replicate}
 use Rattle.std.proofs.lemmas.Nat.{from_le_bytes-to_le_bytes_4, from_le_bytes-to_le_bytes_8}
 use Rattle.std.specs.Int.{w32, w64, to_le_bytes}
 use Rattle.zd_model.specs.Bytes.{AreBytes, u32_at, u64_at}
 use Rattle.zd_model.specs.Crc.{crc32_le}
 use Rattle.zd_model.specs.declared.metadata.Super.{Super}
-use Rattle.zd_model.specs.Super.{IsSuper, super_at, layout_at, before_crc, behind_crc, spelled, block_of, crc_of, HasSizes}
+use Rattle.zd_model.specs.Super.{IsSuper, super_at, layout_at, before_crc, behind_crc, spelled, block_of, crc_of, fields_end, HasBlock, IsVersion}
 use Rattle.zd_model.proofs.CrcLaws.{crc32_le-lt}
 
 abbrev Each : List ℕ → Type 0
@@ -61,9 +61,9 @@ infixr 5 ◌⊕◌
   each = each-append xs ys h.each k.each;
 }
 
-module _ (s : Super) (sizes : HasSizes s) where
+module _ (s : Super) (sizes : HasBlock s) where
   before_bytes : AreBytes 44 (before_crc s)
-  before_bytes = four_bytes 0x445A4244 ⊕ four_bytes 2 ⊕ eight_bytes s.generation ⊕ eight_bytes s.own ⊕ four_bytes s.layout.meta_blocks ⊕ four_bytes s.layout.reserved ⊕ four_bytes s.layout.chunks ⊕ four_bytes s.layout.map_blocks ⊕ four_bytes s.layout.bitmap_blocks ⊕ zero_bytes 0
+  before_bytes = four_bytes 0x445A4244 ⊕ four_bytes s.version ⊕ eight_bytes s.generation ⊕ eight_bytes s.own ⊕ four_bytes s.layout.meta_blocks ⊕ four_bytes s.layout.reserved ⊕ four_bytes s.layout.chunks ⊕ four_bytes s.layout.map_blocks ⊕ four_bytes s.layout.bitmap_blocks ⊕ zero_bytes 0
 
   behind_bytes : AreBytes 4048 (behind_crc s)
   unfolding behind_crc
@@ -123,13 +123,50 @@ module _ (s : Super) (sizes : HasSizes s) where
         bitmap_blocks = from_le_bytes-to_le_bytes_4 s.layout.bitmap_blocks sizes.bitmap_blocks i;
       }
 
-  fields_are : s ≡ super_at (block_of s)
-  fields_are = sym (λ i. record { generation = generation_is i; own = own_is i; layout = layout_is i; label = label_is i; volume = volume_is i; device = device_is i })
+  version_small : s.version < 2 ^ 32
+  version_small = elim sizes.fits.version [
+    | inl one ↦ omega (arith, one)
+    | inr two ↦ omega (arith, two)
+  ]
 
-  tail_is : (i : ℕ) → 112 ≤ i → get_or (block_of s) i 0 ≡ 0
-  tail_is i h =
-      let place : 112 + (i - 112) ≡ i = omega arith in
-      ap (λ k. get_or (block_of s) k 0) (sym place) ∙ sym (get_or-drop 112 (block_of s) (i - 112) 0) ∙ ap (λ xs. get_or xs (i - 112) 0) behind_device ∙ zero_at 3984 (i - 112)
+  version_is : u32_at (block_of s) 4 ≡ s.version
+  unfolding block_of u32_at
+  version_is = from_le_bytes-to_le_bytes_4 s.version version_small
+
+  fields_are : s ≡ super_at (block_of s)
+  fields_are =
+      sym (λ i. record {
+        version = version_is i;
+        generation = generation_is i;
+        own = own_is i;
+        layout = layout_is i;
+        label = label_is i;
+        volume = volume_is i;
+        device = device_is i;
+      })
+
+  -- in version 1 all after the crc is zeros
+  after_crc : s.version ≡ 1 → drop 48 (block_of s) ≡ replicate 4048 0
+  unfolding block_of behind_crc
+  after_crc one =
+      ap (λ xs. xs ++ (s.volume ++ (s.device ++ replicate 3984 0))) (sizes.fits.label one)
+      ∙ ap (λ xs. replicate 32 0 ++ (xs ++ (s.device ++ replicate 3984 0))) (sizes.fits.volume one)
+      ∙ ap (λ xs. replicate 32 0 ++ (replicate 16 0 ++ (xs ++ replicate 3984 0))) (sizes.fits.device one)
+
+  zero_after : (at n : ℕ) → drop at (block_of s) ≡ replicate n 0 → (i : ℕ) → at ≤ i → get_or (block_of s) i 0 ≡ 0
+  zero_after at n rest i far =
+      let place : at + (i - at) ≡ i = omega arith in
+      ap (λ k. get_or (block_of s) k 0) (sym place)
+      ∙ sym (get_or-drop at (block_of s) (i - at) 0)
+      ∙ ap (λ xs. get_or xs (i - at) 0) rest
+      ∙ zero_at n (i - at)
+
+  tail_is : (i : ℕ) → fields_end (u32_at (block_of s) 4) ≤ i → get_or (block_of s) i 0 ≡ 0
+  unfolding fields_end
+  tail_is i far = elim sizes.fits.version [
+    | inl one ↦ zero_after 48 4048 (after_crc one) i (subst (λ v. fields_end v ≤ i) (version_is ∙ one) far)
+    | inr two ↦ zero_after 112 3984 behind_device i (subst (λ v. fields_end v ≤ i) (version_is ∙ two) far)
+  ]
 
   size_is : AreBytes 4096 (block_of s)
   unfolding block_of
@@ -139,10 +176,6 @@ module _ (s : Super) (sizes : HasSizes s) where
   unfolding block_of u32_at
   magic_is = refl
 
-  version_is : u32_at (block_of s) 4 ≡ 2
-  unfolding block_of u32_at
-  version_is = refl
-
   -- a record has a block
   pub spells : IsSuper (block_of s) s
-  spells = record { bytes = size_is; magic = magic_is; version = version_is; crc = crc_is; tail = tail_is; fields = fields_are }
+  spells = record { bytes = size_is; magic = magic_is; version = subst IsVersion (sym version_is) sizes.fits.version; crc = crc_is; tail = tail_is; fields = fields_are }

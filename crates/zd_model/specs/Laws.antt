@@ -11,7 +11,7 @@ use Rattle.zd_model.specs.Faults.{bad_bit, bad_chunk}
 use Rattle.zd_model.specs.Tables.{BitsFollowRules, MapFollowsRules, Tables}
 use Rattle.zd_base.specs.declared.layout.Layout.{Layout}
 use Rattle.zd_model.specs.declared.metadata.MapEntry.{MapEntry}
-use Rattle.zd_model.specs.Super.{IsSuper, HasSizes, decoded, block_of}
+use Rattle.zd_model.specs.Super.{IsSuper, HasBlock, decoded, block_of}
 use Rattle.zd_model.specs.Plain.{ends_past, pattern}
 use Rattle.zd_model.specs.Pieces.{first_block, block_count, pieces_of_request}
 use Rattle.zd_model.specs.Cut.{IsCut, Moves}
@@ -27,9 +27,13 @@ use Rattle.zd_model.specs.Stops.{flushed, last_flush, unflushed}
 use Rattle.zd_model.specs.declared.texts.BadLine.{BadLine}
 use Rattle.zd_model.specs.declared.requests.Ending.{Ending}
 
--- each record with fields of their sizes has a block
+-- each record whose fields have their sizes and fit its version has a block
 abbrev pub EachRecordHasABlock : Type 0
-EachRecordHasABlock = (s : Super) → HasSizes s → IsSuper (block_of s) s
+EachRecordHasABlock = (s : Super) → HasBlock s → IsSuper (block_of s) s
+
+-- and no other record has one
+abbrev pub NoOtherRecordHasABlock : Type 0
+NoOtherRecordHasABlock = (block : List ℕ) (s : Super) → IsSuper block s → HasBlock s
 
 -- which is the only one
 abbrev pub OneRecordHasOneBlock : Type 0

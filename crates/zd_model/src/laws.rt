@@ -1,6 +1,7 @@
 //! What follows from the definitions. The bodies are empty: the clauses are the laws.
 
-ghost use Rattle.zd_model.specs.Laws.{EachRecordHasABlock, OneRecordHasOneBlock};
+ghost use Rattle.zd_model.specs.Laws.{EachRecordHasABlock, NoOtherRecordHasABlock};
+ghost use Rattle.zd_model.specs.Laws.{OneRecordHasOneBlock};
 ghost use Rattle.zd_model.specs.Laws.{OneBlockHasOneRecord, DecodesToItsRecord, PatternsAreSectors};
 ghost use Rattle.zd_model.specs.Laws.{ArraysStaySectors, LegalHistoriesAreReported};
 ghost use Rattle.zd_model.specs.Laws.{HistoriesPartAtTheLastFlush};
@@ -14,6 +15,7 @@ ghost use Rattle.zd_model.specs.Laws.{SameImagesHaveTheSameContent};
 /// A super block is one record's, and a record has one super block.
 pub fn super_block_laws()
     ensures block { EachRecordHasABlock }
+    ensures no_other { NoOtherRecordHasABlock }
     ensures one_block { OneRecordHasOneBlock }
     ensures one_record { OneBlockHasOneRecord }
     ensures decoded { DecodesToItsRecord }

@@ -1,9 +1,10 @@
 //! The block that stands for a head.
 
-ghost use Rattle.std.specs.Prelude.{◌≡◌, ◌+◌, ◌≤◌, ◌==◌, length, slice_range};
+ghost use Rattle.std.specs.Prelude.{◌≡◌, ◌+◌, ◌≤◌, ◌==◌, IfOk, length, slice_range};
 ghost use Rattle.std.specs.List.{list_all};
 ghost use Rattle.zd_model.specs.Bytes.{u32_at, u64_at};
-ghost use Rattle.zd_model.specs.Super.{crc_of, decoded, has_zero_tail, layout_at, super_at};
+ghost use Rattle.zd_model.specs.Super.{HasBlock, crc_of, decoded, fields_end, has_zero_tail};
+ghost use Rattle.zd_model.specs.Super.{is_version, layout_at, super_at};
 
 use crate::{crc32_le, offset};
 use byteorder::{ByteOrder, LittleEndian};
@@ -12,21 +13,26 @@ use zd_model::{Layout, NotSuper, Super};
 
 pub const MAGIC: u32 = 0x445A_4244;
 
-pub const VERSION: u32 = 2;
+/// The version without a label and identifiers.
+pub const BARE_VERSION: u32 = 1;
+
+/// The version with a label and identifiers.
+pub const NAMED_VERSION: u32 = 2;
 
 /// The head for which a block of 4096 bytes stands.
 ///
-/// Any label and any identifier are right. Of the reasons why a block is no super block the first
-/// one that holds is told: `Magic`, `Version`, `Crc`, `Tail`.
+/// In version 2 any label and any identifier are right; in version 1 they are zeros. Of the reasons
+/// why a block is no super block the first one that holds is told: `Magic`, `Version`, `Crc`, `Tail`.
 #[tactic(auto, unfolding(zd_model::specs::Super::decoded))]
 pub fn decode(block: &[u8]) -> Result<Super, NotSuper>
     requires { length block.now ≡ 4096 }
-    ensures { result ≡ decoded block.now }
+    ensures value { result ≡ decoded block.now }
+    ensures head { IfOk result HasBlock }
 {
     if u32_at(block, offset::MAGIC) != MAGIC {
         return Err(NotSuper::Magic);
     }
-    if u32_at(block, offset::VERSION) != VERSION {
+    if !is_version(u32_at(block, offset::VERSION)) {
         return Err(NotSuper::Version);
     }
     if u32_at(block, offset::CRC) != crc_of(block) {
@@ -36,6 +42,26 @@ pub fn decode(block: &[u8]) -> Result<Super, NotSuper>
         return Err(NotSuper::Tail);
     }
     Ok(super_at(block))
+}
+
+/// Whether there is such a version.
+fn is_version(version: u32) -> bool
+    ensures { result ≡ is_version version }
+{
+    version == BARE_VERSION || version == NAMED_VERSION
+}
+
+/// Where the fields of a version end: version 1 has none after the crc.
+#[tactic(auto, unfolding(zd_model::specs::Super::fields_end))]
+fn fields_end(version: u32) -> usize
+    ensures value { result ≡ fields_end version }
+    ensures inside { result ≤ 112 }
+{
+    if version == BARE_VERSION {
+        offset::LABEL
+    } else {
+        offset::ZEROS
+    }
 }
 
 /// The crc that a block should have: that of the block with zeros in the place of its crc, started
@@ -50,12 +76,12 @@ fn crc_of(block: &[u8]) -> u32
     crc32_le(field, &block[offset::LABEL..])
 }
 
-/// Whether all bytes behind the fields are zeros.
+/// Whether all bytes after the fields of its version are zeros.
 fn has_zero_tail(block: &[u8]) -> bool
     requires { length block.now ≡ 4096 }
     ensures { result ≡ has_zero_tail block.now }
 {
-    are_zeros(&block[offset::ZEROS..])
+    are_zeros(&block[fields_end(u32_at(block, offset::VERSION))..])
 }
 
 fn are_zeros(bytes: &[u8]) -> bool
@@ -72,6 +98,7 @@ fn super_at(block: &[u8]) -> Super
     let mut label = [0; 32];
     label.copy_from_slice(&block[offset::LABEL..offset::VOLUME]);
     Super {
+        version: u32_at(block, offset::VERSION),
         generation: u64_at(block, offset::GENERATION),
         own: u64_at(block, offset::OWN),
         layout: layout_at(block),

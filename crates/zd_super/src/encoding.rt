@@ -2,17 +2,19 @@
 
 ghost use Rattle.std.specs.Prelude.{◌≡◌, ◌+◌, ◌≤◌, ◌++◌, ℕ, [], length, take, drop};
 ghost use Rattle.std.specs.Int.{w32, w64, to_le_bytes};
-ghost use Rattle.zd_model.specs.Super.{before_crc, behind_crc, block_of, spelled};
+ghost use Rattle.zd_model.specs.Super.{FitsVersion, before_crc, behind_crc, block_of, spelled};
 
-use crate::block::{MAGIC, VERSION};
+use crate::block::MAGIC;
 use crate::{crc32_le, offset};
 use zd_base::BLOCK;
 use zd_model::{Layout, Super};
 
-/// Makes `out`, of 4096 bytes, the one super block that stands for a head.
+/// Makes `out`, of 4096 bytes, the one super block that stands for a head that fits its version, as
+/// [`Super::fits_version`] tells.
 #[tactic(auto, unfolding(zd_model::specs::Super::block_of))]
 pub fn encode(head: &Super, out: &mut [u8])
-    requires { length out.old ≡ 4096 }
+    requires fits { FitsVersion head.now }
+    requires length { length out.old ≡ 4096 }
     ensures { out.new ≡ block_of head.now }
 {
     put_fields(head, out);
@@ -42,7 +44,7 @@ fn put_numbers(head: &Super, out: &mut [u8])
     ensures length { length out.new ≡ 4096 }
 {
     put_u32(out, offset::MAGIC, MAGIC);
-    put_u32(out, offset::VERSION, VERSION);
+    put_u32(out, offset::VERSION, head.version);
     put_u64(out, offset::GENERATION, head.generation);
     put_u64(out, offset::OWN, head.own);
     put_layout(&head.layout, out);

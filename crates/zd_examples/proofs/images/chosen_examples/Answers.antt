@@ -1,4 +1,4 @@
-use Rattle.zd_examples.proofs.Chosen.{fresh_is, conventional_is, sequential_is, buffered_is}
+use Rattle.zd_examples.proofs.Chosen.{fresh_is, conventional_is, sequential_is, buffered_is, last_zone_is}
 use Rattle.zd_examples.proofs.images.chosen_examples.Goals as goal
 
 pub returns-clause-fresh : goal.returns-clause-fresh
@@ -12,3 +12,6 @@ returns-clause-sequential c = sequential_is 8
 
 pub returns-clause-buffered : goal.returns-clause-buffered
 returns-clause-buffered c = buffered_is
+
+pub returns-clause-last_zone : goal.returns-clause-last_zone
+returns-clause-last_zone c = last_zone_is 8

@@ -26,3 +26,11 @@ returns-clause-buffered c = refl
 pub returns-clause-entry : goal.returns-clause-entry
 unfolding u32_at
 returns-clause-entry c = refl
+
+pub returns-clause-last_zone : goal.returns-clause-last_zone
+unfolding zero_volume zero_sector u32_at
+returns-clause-last_zone c = refl
+
+pub returns-clause-bare : goal.returns-clause-bare
+unfolding zero_volume zero_sector u32_at
+returns-clause-bare c = refl

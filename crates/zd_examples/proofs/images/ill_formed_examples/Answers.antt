@@ -8,6 +8,11 @@ pub returns-clause-cut : goal.returns-clause-cut
 unfolding zero_sector u32_at
 returns-clause-cut c h = let below : 8 ≤ 7 = h.bits.below 6 0 (lit≤ tt) (lit< tt) (lit< tt) refl in omega arith
 
+pub returns-clause-cut_last : goal.returns-clause-cut_last
+unfolding zero_sector u32_at
+returns-clause-cut_last c h =
+    let below : 8 ≤ 7 = h.bits.below 11 0 (lit≤ tt) (lit< tt) (lit< tt) refl in omega arith
+
 pub returns-clause-twice : goal.returns-clause-twice
 unfolding zero_sector u32_at
 returns-clause-twice c h = let invalid : ◌≡◌ {A = Bool} true false = h.bits.one_place 0 6 2 0 refl refl (lit< tt) refl in cc

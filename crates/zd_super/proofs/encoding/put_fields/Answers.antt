@@ -1,4 +1,4 @@
-use Rattle.std.proofs.Common.{◌≡◌, ◌∙◌, ap, sym, List, ℕ, ◌∷◌, [], length, take, replicate}
+use Rattle.std.proofs.Common.{◌≡◌, ◌∙◌, ap, sym, ◌∷◌, [], length, take, replicate}
 use Rattle.std.proofs.Math.Seq.{take-length}
 use Rattle.zd_model.specs.Super.{before_crc, behind_crc}
 use Rattle.zd_super.proofs.FrontLaws.{whole}
