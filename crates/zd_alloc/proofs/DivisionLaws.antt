@@ -7,7 +7,7 @@ use Rattle.zd_base.specs.Geometry.{Shape}
 use Rattle.zd_base.specs.Layout.{set_zones, first_data_zone}
 use Rattle.zd_base.specs.declared.layout.Layout.{Layout}
 use Rattle.zd_base.specs.declared.geometry.Kind.TheVariants.{Conventional, Sequential}
-use Rattle.zd_alloc.specs.Zones.{use_at, division, use_at_start, IsLeastFree, IsLeastOf, Takes, IsStart}
+use Rattle.zd_alloc.specs.Zones.{use_at, division, use_at_start, IsLeastFree, IsLeastOf, TakesLeast, IsStart}
 use Rattle.zd_alloc.specs.declared.uses.ZoneUse.{ZoneUse}
 use Rattle.zd_alloc.specs.declared.uses.ZoneUse.TheVariants.{Meta, Held}
 
@@ -39,7 +39,7 @@ left_set a b z u inside = sym (set-append_left a b z u inside)
 pub right_set : (a b : List ZoneUse) (z : ℕ) (u : ZoneUse) → length a ≤ z → a ++ set b (z - length a) u ≡ set (a ++ b) z u
 right_set a b z u past = sym (set-append_right a b (length a) z u refl past)
 
-pub left_takes : (a a' b : List ZoneUse) (order : List ℕ) (z : ℕ) → IsLeastFree a z → z < length a → a' ≡ set a z Held → Takes Conventional (division a b order) (division a' b order) z
+pub left_takes : (a a' b : List ZoneUse) (order : List ℕ) (z : ℕ) → IsLeastFree a z → z < length a → a' ≡ set a z Held → TakesLeast Conventional (division a b order) (division a' b order) z
 left_takes a a' b order z first inside e = record {
   least = left_least a b order z first inside;
   zones = ap (λ (x : List ZoneUse). x ++ b) e ∙ left_set a b z Held inside;
@@ -47,7 +47,7 @@ left_takes a a' b order z first inside e = record {
   order = refl;
 }
 
-pub right_takes : (a b b' : List ZoneUse) (order : List ℕ) (z : ℕ) → IsLeastFree b z → z < length b → b' ≡ set b z Held → Takes Sequential (division a b order) (division a b' order) (length a + z)
+pub right_takes : (a b b' : List ZoneUse) (order : List ℕ) (z : ℕ) → IsLeastFree b z → z < length b → b' ≡ set b z Held → TakesLeast Sequential (division a b order) (division a b' order) (length a + z)
 right_takes a b b' order z first inside e =
     let place : length a + z - length a ≡ z = omega arith in
     record {

@@ -4,7 +4,7 @@ use Rattle.std.specs.Int.{bit_at, bit_not, trailing_zeros}
 use Rattle.std.proofs.lemmas.List.{get_or_read, get_or_past}
 use Rattle.std.proofs.lemmas.Bool.{cases_lt, cases_eq}
 use Rattle.std.proofs.lemmas.Nat.Bits.{bit_at-zero, bit_at-trailing_zeros, bit_at_set_same, bit_at_set_other, bit_at_clear_same, bit_at_clear_other}
-use Rattle.zd_alloc.specs.Flags.{has, GivesFlag, IsLeast, HasNone, IsSummed}
+use Rattle.zd_alloc.specs.Flags.{has_number, GivesFlag, IsLeast, HasNone, IsSummed}
 
 -- what an index of a list gives
 pub word_is : (words : List ℕ) (i w : ℕ) → i < length words → w ≡ get_or words i w → w ≡ slice_index words i
@@ -51,7 +51,7 @@ lowered words n inside =
     (λ k low apart. bit_at_clear_other w64 (slice_index words (n / 64)) (n % 64) small k low apart)
 
 -- a word that is 0 has no number
-word_none : (words : List ℕ) (m : ℕ) → slice_index words (m / 64) ≡ 0 → has words m ≡ false
+word_none : (words : List ℕ) (m : ℕ) → slice_index words (m / 64) ≡ 0 → has_number words m ≡ false
 word_none words m e = ap (λ (x : ℕ). nat_eq (bit_at x (m % 64)) 1) e ∙ ap (λ (x : ℕ). nat_eq x 1) (bit_at-zero (m % 64))
 
 -- the least flag of the first word that isn't 0 is the least number
@@ -85,14 +85,14 @@ some_not : (w : ℕ) → 0 < w → not (nat_eq w 0) ≡ true
 some_not w some = elim (cases_eq w 0) [ inl e ↦ absurd (omega (arith, e, some)) | inr ne ↦ search (rules, ne) ]
 
 -- a word whose flag in the summary is down is 0
-pub summed_zero : (words summary : List ℕ) (i : ℕ) → IsSummed words summary → has summary i ≡ false → slice_index words i ≡ 0
+pub summed_zero : (words summary : List ℕ) (i : ℕ) → IsSummed words summary → has_number summary i ≡ false → slice_index words i ≡ 0
 summed_zero words summary i sums down = elim (cases_eq (slice_index words i) 0) [
   | inl e ↦ e
   | inr ne ↦ absurd (true≢false (sym (some_not (slice_index words i) (omega (arith, ne))) ∙ sym (sums.tells i) ∙ down))
 ]
 
 -- a word whose flag is up isn't
-pub summed_some : (words summary : List ℕ) (i : ℕ) → IsSummed words summary → has summary i ≡ true → 0 < slice_index words i
+pub summed_some : (words summary : List ℕ) (i : ℕ) → IsSummed words summary → has_number summary i ≡ true → 0 < slice_index words i
 summed_some words summary i sums up = elim (cases_eq (slice_index words i) 0) [
   | inl e ↦ absurd (true≢false (sym up ∙ sums.tells i ∙ zero_not (slice_index words i) e))
   | inr ne ↦ omega (arith, ne)

@@ -40,7 +40,7 @@ without_once x (y ∷ before) after none none' =
     let ne = p.0 in
     grind (arith, nat_tests)
 
--- what stands before and behind a chunk
+-- what stands before and after a chunk
 pub record IsSplit (x : ℕ) (xs : List ℕ) : Type 0 where
   pub before : List ℕ
   pub after : List ℕ
@@ -55,7 +55,7 @@ split_at x (y ∷ xs) some = elim (cases_eq y x) [
       record { before = y ∷ rest.before; after = rest.after; is = ap (λ (zs : List ℕ). y ∷ zs) rest.is }
 ]
 
--- one more chunk behind those of a range
+-- one more chunk after those of a range
 pub range_more : (n : ℕ) → range_with_len 0 (n + 1) ≡ range_with_len 0 n ++ n ∷ []
 range_more n =
     sym (map-id (range_with_len 0 (n + 1))) ∙ map-range_with_len_more (λ (x : ℕ). x) 0 n n (omega arith)
@@ -80,7 +80,7 @@ times_within x a (suc n) low high = elim (cases_eq a x) [
       times_other x a (range_with_len (a + 1) n) ne ∙ times_within x (a + 1) n (omega (arith, low, ne)) (omega (arith, high))
 ]
 
--- a chunk that is put behind the others stands last
+-- a chunk that is put after the others stands last
 pub puts_last : (x : ℕ) (before after : List ℕ) → times x before ≡ 0 → times x after ≡ 0 → PutsLast x (before ++ x ∷ after) ((before ++ after) ++ x ∷ [])
 puts_last x before after none none' = record {
   others_first = ap (λ (xs : List ℕ). xs ++ x ∷ []) (sym (without_once x before after none none'));

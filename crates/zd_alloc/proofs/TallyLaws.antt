@@ -4,8 +4,8 @@ use Rattle.std.proofs.Math.Seq.{map-set_same}
 use Rattle.std.proofs.lemmas.List.{get_or_past}
 use Rattle.std.proofs.lemmas.Bool.{cases_eq, cases_lt}
 use Rattle.std.proofs.lemmas.List.Sums.{sum_by-set, get_or-le-sum_by}
-use Rattle.zd_alloc.specs.Flags.{has, GivesFlag, HasNone}
-use Rattle.zd_alloc.specs.Zones.{use_at, is_free, is_limbo, after_limbo, IsTally, IsKept}
+use Rattle.zd_alloc.specs.Flags.{has_number, GivesFlag, HasNone}
+use Rattle.zd_alloc.specs.Zones.{use_at, is_free, is_limbo, after_limbo, IsTally, HasTallies}
 use Rattle.zd_alloc.specs.declared.uses.ZoneUse.{ZoneUse}
 use Rattle.zd_alloc.specs.declared.uses.ZoneUse.TheVariants.{Meta, Free, Held, Limbo}
 
@@ -51,28 +51,28 @@ tally_in such uses flags flags' n z v t inside was now same gives =
     let there : one such v ≡ 1 = ap (λ (b : Bool). cond b 1 0) now in
     tally_set such uses flags flags' n (n + 1) z v t inside same (rw now gives) (omega (arith, here, there))
 
-pub kept_taken : (uses : List ZoneUse) (free free' limbo : List ℕ) (n m z : ℕ) → IsKept uses free limbo n m → z < length uses → use_at uses z ≡ Free → length free' ≡ length free → GivesFlag false z free free' → IsKept (set uses z Held) free' limbo (n - 1) m
+pub kept_taken : (uses : List ZoneUse) (free free' limbo : List ℕ) (n m z : ℕ) → HasTallies uses free limbo n m → z < length uses → use_at uses z ≡ Free → length free' ≡ length free → GivesFlag false z free free' → HasTallies (set uses z Held) free' limbo (n - 1) m
 kept_taken uses free free' limbo n m z kept inside was same gives = record {
   few = omega (arith, kept.few, length-set uses z Held);
   of_free = tally_out is_free uses free free' n z Held kept.of_free inside (ap is_free was) refl same gives;
   of_limbo = tally_same is_limbo uses limbo m z Held kept.of_limbo inside (ap is_limbo was);
 }
 
-pub kept_freed : (uses : List ZoneUse) (free free' limbo : List ℕ) (n m z : ℕ) → IsKept uses free limbo n m → z < length uses → use_at uses z ≡ Held → length free' ≡ length free → GivesFlag true z free free' → IsKept (set uses z Free) free' limbo (n + 1) m
+pub kept_freed : (uses : List ZoneUse) (free free' limbo : List ℕ) (n m z : ℕ) → HasTallies uses free limbo n m → z < length uses → use_at uses z ≡ Held → length free' ≡ length free → GivesFlag true z free free' → HasTallies (set uses z Free) free' limbo (n + 1) m
 kept_freed uses free free' limbo n m z kept inside was same gives = record {
   few = omega (arith, kept.few, length-set uses z Free);
   of_free = tally_in is_free uses free free' n z Free kept.of_free inside (ap is_free was) refl same gives;
   of_limbo = tally_same is_limbo uses limbo m z Free kept.of_limbo inside (ap is_limbo was);
 }
 
-pub kept_limbo : (uses : List ZoneUse) (free limbo limbo' : List ℕ) (n m z : ℕ) → IsKept uses free limbo n m → z < length uses → use_at uses z ≡ Held → length limbo' ≡ length limbo → GivesFlag true z limbo limbo' → IsKept (set uses z Limbo) free limbo' n (m + 1)
+pub kept_limbo : (uses : List ZoneUse) (free limbo limbo' : List ℕ) (n m z : ℕ) → HasTallies uses free limbo n m → z < length uses → use_at uses z ≡ Held → length limbo' ≡ length limbo → GivesFlag true z limbo limbo' → HasTallies (set uses z Limbo) free limbo' n (m + 1)
 kept_limbo uses free limbo limbo' n m z kept inside was same gives = record {
   few = omega (arith, kept.few, length-set uses z Limbo);
   of_free = tally_same is_free uses free n z Limbo kept.of_free inside (ap is_free was);
   of_limbo = tally_in is_limbo uses limbo limbo' m z Limbo kept.of_limbo inside (ap is_limbo was) refl same gives;
 }
 
-pub kept_ended : (uses : List ZoneUse) (free free' limbo limbo' : List ℕ) (n m z : ℕ) → IsKept uses free limbo n m → z < length uses → use_at uses z ≡ Limbo → length free' ≡ length free → GivesFlag true z free free' → length limbo' ≡ length limbo → GivesFlag false z limbo limbo' → IsKept (set uses z Free) free' limbo' (n + 1) (m - 1)
+pub kept_ended : (uses : List ZoneUse) (free free' limbo limbo' : List ℕ) (n m z : ℕ) → HasTallies uses free limbo n m → z < length uses → use_at uses z ≡ Limbo → length free' ≡ length free → GivesFlag true z free free' → length limbo' ≡ length limbo → GivesFlag false z limbo limbo' → HasTallies (set uses z Free) free' limbo' (n + 1) (m - 1)
 kept_ended uses free free' limbo limbo' n m z kept inside was same gives same' gives' = record {
   few = omega (arith, kept.few, length-set uses z Free);
   of_free = tally_in is_free uses free free' n z Free kept.of_free inside (ap is_free was) refl same gives;
@@ -86,7 +86,7 @@ is_limbo_one Free e = absurd (true≢false (sym e))
 is_limbo_one Held e = absurd (true≢false (sym e))
 
 -- a set of limbo with a zone in it tells a zone in limbo, and one of the list
-pub limbo_there : (uses : List ZoneUse) (flags : List ℕ) (n z : ℕ) → IsTally is_limbo uses flags n → has flags z ≡ true → use_at uses z ≡ Limbo
+pub limbo_there : (uses : List ZoneUse) (flags : List ℕ) (n z : ℕ) → IsTally is_limbo uses flags n → has_number flags z ≡ true → use_at uses z ≡ Limbo
 limbo_there uses flags n z t up = is_limbo_one (use_at uses z) (sym (t.tells z) ∙ up)
 
 pub limbo_inside : (uses : List ZoneUse) (z : ℕ) → use_at uses z ≡ Limbo → z < length uses

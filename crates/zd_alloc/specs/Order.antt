@@ -9,13 +9,13 @@ is_other chunk other = not (other == chunk)
 abbrev pub without : ℕ → List ℕ → List ℕ
 without chunk order = filter (is_other chunk) order
 
--- the chunk stands last now, behind all others, which stand as they stood
+-- the chunk stands last now, after all others, which stand as they stood
 pub record PutsLast (chunk : ℕ) (old new : List ℕ) : Type 0 where
   pub others_first : new ≡ without chunk old ++ chunk ∷ []
   pub count : length new ≡ length old
 
--- what stands right behind a chunk, wherever it stands in the list: None behind the last
-pub record IsBehind (order : List ℕ) (chunk : ℕ) (found : Option ℕ) : Type 0 where
+-- what stands right after a chunk, wherever it stands in the list: None after the last
+pub record IsAfter (order : List ℕ) (chunk : ℕ) (found : Option ℕ) : Type 0 where
   pub here : Contains order chunk
-  pub behind : (place : ℕ) → slice_get order place ≡ Some chunk
+  pub next : (place : ℕ) → slice_get order place ≡ Some chunk
       → found ≡ slice_get order (place + 1)

@@ -6,7 +6,7 @@ use Rattle.zd_base.specs.Layout.{first_data_zone}
 use Rattle.zd_base.specs.declared.geometry.Kind.{Kind}
 use Rattle.zd_base.specs.declared.geometry.Kind.TheVariants.{Conventional, Sequential}
 use Rattle.zd_base.specs.declared.layout.Layout.{Layout}
-use Rattle.zd_alloc.specs.Flags.{has}
+use Rattle.zd_alloc.specs.Flags.{has_number}
 use Rattle.zd_alloc.specs.declared.uses.ZoneUse.{ZoneUse}
 use Rattle.zd_alloc.specs.declared.uses.ZoneUse.TheVariants.{Meta, Free, Held, Limbo}
 
@@ -23,8 +23,8 @@ is_limbo Limbo = true
 is_limbo _ = false
 
 -- the use of a released zone
-abbrev pub released : Bool → ZoneUse
-released named = cond named Limbo Free
+abbrev pub use_after_release : Bool → ZoneUse
+use_after_release named = cond named Limbo Free
 
 -- the use of a zone once limbo has ended
 abbrev pub after_limbo : ZoneUse → ZoneUse
@@ -41,11 +41,11 @@ pub record IsLeastFree (uses : List ZoneUse) (zone : ℕ) : Type 0 where
 -- a set and a number of the zones with such a use
 pub record IsTally (such : ZoneUse → Bool) (uses : List ZoneUse) (flags : List ℕ) (number : ℕ) : Type 0 where
   pub room : length uses ≤ 64 * length flags
-  pub tells : (zone : ℕ) → has flags zone ≡ such (use_at uses zone)
+  pub tells : (zone : ℕ) → has_number flags zone ≡ such (use_at uses zone)
   pub count : number ≡ count_by such uses
 
 -- what is kept beside the uses: sets and numbers of the free zones and of those in limbo
-pub record IsKept (uses : List ZoneUse) (free limbo : List ℕ) (free_count limbo_count : ℕ) : Type 0 where
+pub record HasTallies (uses : List ZoneUse) (free limbo : List ℕ) (free_count limbo_count : ℕ) : Type 0 where
   pub few : length uses ≤ 65536
   pub of_free : IsTally is_free uses free free_count
   pub of_limbo : IsTally is_limbo uses limbo limbo_count
@@ -86,7 +86,7 @@ abbrev pub HasNoFree : Kind → Division → Type 0
 HasNoFree kind d = (zone : ℕ) → IsOf kind d.conv zone → use_at d.zones zone ≢ Free
 
 -- the least free zone of a kind is held now, and nothing else changed
-pub record Takes (kind : Kind) (old new : Division) (zone : ℕ) : Type 0 where
+pub record TakesLeast (kind : Kind) (old new : Division) (zone : ℕ) : Type 0 where
   pub least : IsLeastOf kind old zone
   pub zones : new.zones ≡ set old.zones zone Held
   pub conv : new.conv ≡ old.conv

@@ -4,14 +4,14 @@ ghost use Rattle.std.specs.Prelude.{◌≡◌, ◌≢◌, ℕ, ◌+◌, ◌<◌,
 ghost use Rattle.zd_base.specs.Geometry.{zone_count};
 ghost use Rattle.zd_base.specs.Layout.{Fits};
 ghost use Rattle.zd_base.specs.declared.geometry.Kind.TheVariants.{Conventional, Sequential};
-ghost use Rattle.zd_alloc.specs.Zones.{use_at, is_free, is_limbo, released, after_limbo, uses_of, use_at_start};
-ghost use Rattle.zd_alloc.specs.Zones.{IsLeastOf, HasNoFree, Takes, IsStart};
-ghost use Rattle.zd_alloc.specs.Order.{PutsLast, IsBehind};
+ghost use Rattle.zd_alloc.specs.Zones.{use_at, is_free, is_limbo, use_after_release, after_limbo, uses_of, use_at_start};
+ghost use Rattle.zd_alloc.specs.Zones.{IsLeastOf, HasNoFree, TakesLeast, IsStart};
+ghost use Rattle.zd_alloc.specs.Order.{PutsLast, IsAfter};
 ghost use Rattle.zd_alloc.specs.declared.uses.ZoneUse.TheVariants.{Held};
 
 use crate::order::UseOrder;
 use crate::uses::ZoneUse;
-use crate::zones::Zones;
+use crate::zones::KindZones;
 use std::alloc::{AllocError, Global};
 use std::marker::Model;
 use zd_base::{ChunkNo, Geometry, Kind, Layout, Memory, ZoneNo};
@@ -22,8 +22,8 @@ use zd_base::{ChunkNo, Geometry, Kind, Layout, Memory, ZoneNo};
 /// chunks, the one that was written least recently first. No call but `new` takes memory.
 #[derive(Drop)]
 pub struct Alloc {
-    conventional: Zones,
-    sequential: Zones,
+    conventional: KindZones,
+    sequential: KindZones,
     order: UseOrder,
 }
 
@@ -42,14 +42,14 @@ fn started(
     count: u32,
     first_data: u32,
     named: &[bool],
-) -> Result<Zones, AllocError>
+) -> Result<KindZones, AllocError>
     requires few { first + count ≤ 65536 }
     requires inside { first + count ≤ length named.now }
     ensures count { IfOk result (λ z. length z ≡ count) }
     ensures uses { IfOk result (λ z. (i : ℕ) → i < count
         → use_at z i ≡ use_at_start first_data (get_or named.now (first + i) false) (first + i)) }
 {
-    let mut zones = Zones::held(alloc, count)?;
+    let mut zones = KindZones::held(alloc, count)?;
     for i in 0..count {
         let zone = first + i;
         if zone < first_data {
@@ -128,7 +128,7 @@ impl Alloc {
 
     /// Takes the least free conventional zone. None exactly where none is free.
     pub fn take_conventional(&mut self) -> Option<ZoneNo>
-        ensures some { IfSome result (λ zone. Takes Conventional self.old self.new zone) }
+        ensures some { IfSome result (λ zone. TakesLeast Conventional self.old self.new zone) }
         ensures none { IfNone result (HasNoFree Conventional self.old) }
         ensures same { IfNone result (self.new ≡ self.old) }
     {
@@ -138,7 +138,7 @@ impl Alloc {
 
     /// Takes the least free sequential zone. None exactly where none is free.
     pub fn take_sequential(&mut self) -> Option<ZoneNo>
-        ensures some { IfSome result (λ zone. Takes Sequential self.old self.new zone) }
+        ensures some { IfSome result (λ zone. TakesLeast Sequential self.old self.new zone) }
         ensures none { IfNone result (HasNoFree Sequential self.old) }
         ensures same { IfNone result (self.new ≡ self.old) }
     {
@@ -170,7 +170,7 @@ impl Alloc {
     pub fn release(&mut self, zone: ZoneNo, named_by_commit: bool)
         requires inside { zone < length self.old.zones }
         requires held { use_at self.old.zones zone ≡ Held }
-        ensures zones { self.new.zones ≡ set self.old.zones zone (released named_by_commit) }
+        ensures zones { self.new.zones ≡ set self.old.zones zone (use_after_release named_by_commit) }
         ensures conv { self.new.conv ≡ self.old.conv }
         ensures order { self.new.order ≡ self.old.order }
     {
@@ -210,10 +210,10 @@ impl Alloc {
         ChunkNo(self.order.oldest())
     }
 
-    /// The chunk behind this one in use order. None exactly for the last.
+    /// The chunk after this one in use order. None exactly for the last.
     pub fn after(&self, chunk: ChunkNo) -> Option<ChunkNo>
         requires { chunk < length self.now.order }
-        ensures value { IsBehind self.now.order chunk result }
+        ensures value { IsAfter self.now.order chunk result }
         ensures inside { IfSome result (λ next. next < length self.now.order) }
     {
         let next = self.order.after(chunk.0)?;

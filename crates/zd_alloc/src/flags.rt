@@ -3,7 +3,7 @@
 ghost use Rattle.std.specs.Prelude.{◌≡◌, ◌/◌, ◌<◌, ◌≤◌, ◌*◌, ◌+◌, true, false, length, IfOk, IfSome, IfNone, replicate};
 ghost use Rattle.zd_alloc.specs.Flags.{GivesFlag, IsLeast, HasNone};
 
-use crate::words::{WORD, least, least_from, lower, raise};
+use crate::words::{WORD, least, least_from, lower_flag, raise_flag};
 use std::alloc::{AllocError, Global};
 use std::marker::Model;
 
@@ -51,8 +51,8 @@ impl FlagSet {
         ensures flag { GivesFlag true n self.old self.new }
         ensures length { length self.new ≡ length self.old }
     {
-        raise(&mut self.words, n);
-        raise(&mut self.summary, n / WORD);
+        raise_flag(&mut self.words, n);
+        raise_flag(&mut self.summary, n / WORD);
     }
 
     /// Takes a number out.
@@ -61,9 +61,9 @@ impl FlagSet {
         ensures flag { GivesFlag false n self.old self.new }
         ensures length { length self.new ≡ length self.old }
     {
-        lower(&mut self.words, n);
+        lower_flag(&mut self.words, n);
         if self.words[(n / WORD) as usize] == 0 {
-            lower(&mut self.summary, n / WORD);
+            lower_flag(&mut self.summary, n / WORD);
         }
     }
 

@@ -15,13 +15,13 @@ pub(crate) struct Links {
 }
 
 impl Model for Links {
-    ghost use Rattle.zd_alloc.specs.Links.{Tables, IsWithin};
+    ghost use Rattle.zd_alloc.specs.Links.{LinkTables, AreLinks};
 
-    ghost Value = { Tables };
+    ghost Value = { LinkTables };
 
     ghost view = { λ l. record { next = l.next.items; prev = l.prev.items } };
 
-    ghost invariant = { λ l. IsWithin (record { next = l.next.items; prev = l.prev.items }) };
+    ghost invariant = { λ l. AreLinks (record { next = l.next.items; prev = l.prev.items }) };
 }
 
 fn all_at(alloc: Global, end: u32) -> Result<Vec<u32>, AllocError>
@@ -51,7 +51,7 @@ impl Links {
         self.next.len() as u32 - 1
     }
 
-    /// The place behind this one.
+    /// The place after this one.
     pub(crate) fn next(&self, place: u32) -> u32
         requires { place ≤ end_of self.now }
         ensures value { result ≡ next_of self.now place }

@@ -2,7 +2,7 @@
 
 ghost use Rattle.std.specs.Prelude.{◌≡◌, ◌<◌, ◌≤◌, length, IfOk, IfSome, Some, slice_get};
 ghost use Rattle.std.specs.List.{range_with_len};
-ghost use Rattle.zd_alloc.specs.Order.{PutsLast, IsBehind};
+ghost use Rattle.zd_alloc.specs.Order.{PutsLast, IsAfter};
 
 use crate::links::Links;
 use std::alloc::{AllocError, Global};
@@ -11,19 +11,19 @@ use std::marker::Model;
 /// All chunks in the order of their use. Contracts see the list.
 #[derive(Drop)]
 pub(crate) struct UseOrder {
-    // The places are the chunks; the end stands before the first and behind the last.
+    // The places are the chunks; the end stands before the first and after the last.
     links: Links,
 }
 
 impl Model for UseOrder {
     ghost use Rattle.std.specs.Prelude.{ℕ, List};
-    ghost use Rattle.zd_alloc.specs.Links.{order_of, IsWhole};
+    ghost use Rattle.zd_alloc.specs.Links.{order_of, IsFullRing};
 
     ghost Value = { List ℕ };
 
     ghost view = { λ u. order_of u.links };
 
-    ghost invariant = { λ u. IsWhole u.links (order_of u.links) };
+    ghost invariant = { λ u. IsFullRing u.links (order_of u.links) };
 }
 
 impl UseOrder {
@@ -57,10 +57,10 @@ impl UseOrder {
         self.links.next(self.links.end())
     }
 
-    /// The chunk behind this one.
+    /// The chunk after this one.
     pub(crate) fn after(&self, chunk: u32) -> Option<u32>
         requires { chunk < length self.now }
-        ensures value { IsBehind self.now chunk result }
+        ensures value { IsAfter self.now chunk result }
         ensures inside { IfSome result (λ next. next < length self.now) }
     {
         let next = self.links.next(chunk);

@@ -7,7 +7,7 @@ ghost use Rattle.zd_alloc.specs.Flags.{GivesFlag, IsLeast, HasNone};
 pub(crate) const WORD: u32 = 64;
 
 /// Puts a number into the set.
-pub(crate) fn raise(words: &mut Vec<u64>, n: u32)
+pub(crate) fn raise_flag(words: &mut Vec<u64>, n: u32)
     requires { n / 64 < length words.old.items }
     ensures flag { GivesFlag true n words.old.items words.new.items }
     ensures length { length words.new.items ≡ length words.old.items }
@@ -19,7 +19,7 @@ pub(crate) fn raise(words: &mut Vec<u64>, n: u32)
 }
 
 /// Takes a number out of the set.
-pub(crate) fn lower(words: &mut Vec<u64>, n: u32)
+pub(crate) fn lower_flag(words: &mut Vec<u64>, n: u32)
     requires { n / 64 < length words.old.items }
     ensures flag { GivesFlag false n words.old.items words.new.items }
     ensures length { length words.new.items ≡ length words.old.items }

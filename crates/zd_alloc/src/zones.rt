@@ -1,7 +1,7 @@
 //! The zones of one kind.
 
 ghost use Rattle.std.specs.Prelude.{◌≡◌, ◌≢◌, ℕ, ◌<◌, ◌≤◌, Bool, true, false, length, map, set, replicate, count_by, IfOk, IfSome, IfNone};
-ghost use Rattle.zd_alloc.specs.Zones.{use_at, is_free, is_limbo, released, after_limbo, IsLeastFree};
+ghost use Rattle.zd_alloc.specs.Zones.{use_at, is_free, is_limbo, use_after_release, after_limbo, IsLeastFree};
 ghost use Rattle.zd_alloc.specs.declared.uses.ZoneUse.TheVariants.{Meta, Free, Held, Limbo};
 
 use crate::flags::FlagSet;
@@ -11,7 +11,7 @@ use std::marker::Model;
 
 /// Zones, counted from 0. Contracts see the list of their uses.
 #[derive(Drop)]
-pub(crate) struct Zones {
+pub(crate) struct KindZones {
     uses: Vec<ZoneUse>,
     free: FlagSet,
     limbo: FlagSet,
@@ -19,16 +19,16 @@ pub(crate) struct Zones {
     limbo_count: u32,
 }
 
-impl Model for Zones {
+impl Model for KindZones {
     ghost use Rattle.std.specs.Prelude.{List};
-    ghost use Rattle.zd_alloc.specs.Zones.{IsKept};
+    ghost use Rattle.zd_alloc.specs.Zones.{HasTallies};
     ghost use Rattle.zd_alloc.specs.declared.uses.ZoneUse.{ZoneUse};
 
     ghost Value = { List ZoneUse };
 
     ghost view = { λ z. z.uses.items };
 
-    ghost invariant = { λ z. IsKept z.uses.items z.free z.limbo z.free_count z.limbo_count };
+    ghost invariant = { λ z. HasTallies z.uses.items z.free z.limbo z.free_count z.limbo_count };
 }
 
 fn all_held(alloc: Global, count: u32) -> Result<Vec<ZoneUse>, AllocError>
@@ -37,16 +37,16 @@ fn all_held(alloc: Global, count: u32) -> Result<Vec<ZoneUse>, AllocError>
     vec![in alloc; ZoneUse::Held; count as usize]
 }
 
-impl Zones {
+impl KindZones {
     /// So many zones, all of them held.
-    pub(crate) fn held(alloc: Global, count: u32) -> Result<Zones, AllocError>
+    pub(crate) fn held(alloc: Global, count: u32) -> Result<KindZones, AllocError>
         requires { count ≤ 65536 }
         ensures { IfOk result (λ z. z ≡ replicate count Held) }
     {
         let free = FlagSet::new(alloc, count)?;
         let limbo = FlagSet::new(alloc, count)?;
         let uses = all_held(alloc, count)?;
-        Ok(Zones {
+        Ok(KindZones {
             uses,
             free,
             limbo,
@@ -124,7 +124,7 @@ impl Zones {
     pub(crate) fn release(&mut self, zone: u32, named_by_commit: bool)
         requires inside { zone < length self.old }
         requires held { use_at self.old zone ≡ Held }
-        ensures { self.new ≡ set self.old zone (released named_by_commit) }
+        ensures { self.new ≡ set self.old zone (use_after_release named_by_commit) }
     {
         if named_by_commit {
             self.limbo.insert(zone);

@@ -8,7 +8,7 @@ use Rattle.std.proofs.lemmas.Bool.{false≢true}
 use Rattle.zd_base.specs.Faults.{Rose}
 use Rattle.zd_ports.specs.Taking.{Takes, IsTaken}
 
--- the first so many bytes stand behind what a sink held, where it told that
+-- the first so many bytes stand after what a sink held, where it told that
 abbrev pub HoldsMore : Option (List ℕ) → Option (List ℕ) → List ℕ → ℕ → Type 0
 HoldsMore old here bytes at = IfSome old (λ before. here ≡ Some (before ++ take at bytes))
 
@@ -24,11 +24,11 @@ held_more old here after bytes at n held wrote fits = IfSome_then old held (λ b
     ∙ ap (λ (l : List ℕ). before ++ (take at bytes ++ l)) (take-take n (length bytes - at) (drop at bytes) (omega arith))
     ∙ ap (λ (l : List ℕ). before ++ l) (sym (take-add at n bytes))))
 
--- the bytes so far are a front, and the whole where no more are left
-pub took_front : (old here : Option (List ℕ)) (bytes : List ℕ) (at : ℕ) (whole : Type 0)
+-- the bytes so far are a prefix, and the whole where no more are left
+pub took_prefix : (old here : Option (List ℕ)) (bytes : List ℕ) (at : ℕ) (whole : Type 0)
     → HoldsMore old here bytes at → (whole → drop at bytes ≡ []) → IfSome old (λ before. Takes before here bytes whole)
-took_front old here bytes at whole held all = IfSome_then old held (λ before is.
-    record { front = take at bytes; rest = drop at bytes; taken = is; is_front = take-append-drop at bytes; all = all })
+took_prefix old here bytes at whole held all = IfSome_then old held (λ before is.
+    record { prefix = take at bytes; rest = drop at bytes; taken = is; is_prefix = take-append-drop at bytes; all = all })
 
 -- a call that answered Ok, or whose object didn't fail
 told_where : {T E : Type 0} (r : Result T E) (told : Bool) (status before now : ℕ) → told ≡ is_ok r
@@ -45,9 +45,9 @@ pub taken_by_run : {T E : Type 0} (r : Result T E) (told : Bool) (status earlier
 taken_by_run r told status earlier now old after bytes is done failed took before held =
     let t = MatchOption-at_some _ (λ before. Takes before after bytes (IsOk r)) before held took in
     record {
-      front = t.front;
+      prefix = t.prefix;
       rest = t.rest;
       taken = t.taken;
-      is_front = t.is_front;
+      is_prefix = t.is_prefix;
       all = λ h. t.all (told_where r told status earlier now is done failed h);
     }

@@ -1,7 +1,7 @@
--- A reader or a writer of std behind a port, as contracts see it.
+-- A reader or a writer of std under a port, as contracts see it.
 use Rattle.std.specs.Prelude.{ℕ, List, Option, Some, None}
 
--- what stands behind it, as it was first and as it is, and how often it has failed
+-- what stands under it, as it was first and as it is, and how often it has failed
 pub record Adapter (T : Type 0) : Type 0 where
   pub first : T
   pub inner : T

@@ -1,7 +1,7 @@
 -- What a source gives, and how calls are counted.
 use Rattle.std.specs.Prelude.{◌≡◌, ℕ, ◌+◌, ◌-◌, ◌≤◌, ◌^◌, min, Option, Some, List, [], length, take, drop}
 
--- n of the bytes that were left stand in front of the buffer, and the others are left; none only at the end
+-- the buffer begins with the first n bytes that were left, and the others are left; none only at the end
 pub record Gives (bytes : List ℕ) (after : Option (List ℕ)) (n : ℕ) (into : List ℕ) : Type 0 where
   pub some : n ≤ length bytes
   pub read : take n into ≡ take n bytes

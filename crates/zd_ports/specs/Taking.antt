@@ -2,13 +2,13 @@
 use Rattle.std.specs.Prelude.{◌≡◌, ◌⊎◌, ℕ, List, [], ◌++◌, Option, Some}
 use Rattle.zd_base.specs.Faults.{Rose}
 
--- the sink took these bytes behind what it held, whole or a front of them
+-- the sink took these bytes after what it held, whole or a prefix of them
 pub record Takes
     (before : List ℕ) (after : Option (List ℕ)) (bytes : List ℕ) (whole : Type 0) : Type 0 where
-  pub front : List ℕ
+  pub prefix : List ℕ
   pub rest : List ℕ
-  pub taken : after ≡ Some (before ++ front)
-  pub is_front : front ++ rest ≡ bytes
+  pub taken : after ≡ Some (before ++ prefix)
+  pub is_prefix : prefix ++ rest ≡ bytes
   pub all : whole → rest ≡ []
 
 -- nothing failed

@@ -12,8 +12,8 @@ use zd_base::{Failed, Memory};
 
 /// A sink in memory that fails where it is told to.
 ///
-/// Contracts see it as a `Store`: the bytes that it took, how many more it has room for, the numbers
-/// of the calls that fail, counted from 1, and the counts of calls and faults.
+/// Contracts see it as an `Intake`: the bytes that it took, how many more it has room for, the
+/// numbers of the calls that fail, counted from 1, and the counts of calls and faults.
 #[derive(Drop)]
 pub struct MemSink {
     bytes: Vec<u8>,
@@ -24,9 +24,9 @@ pub struct MemSink {
 
 impl Model for MemSink {
     ghost use Rattle.std.specs.Prelude.{◌-◌, vec_capacity, vec_len};
-    ghost use Rattle.zd_ports.specs.MemSink.{Store};
+    ghost use Rattle.zd_ports.specs.MemSink.{Intake};
 
-    ghost Value = { Store };
+    ghost Value = { Intake };
 
     ghost view = { λ s. record {
       held = s.bytes.items;

@@ -65,7 +65,7 @@ impl MemSource {
     }
 }
 
-// Copies bytes from the front of `left`, at most `most`, and answers how many.
+// Copies a prefix of `left`, at most `most` bytes, and answers how many.
 fn give(left: &[u8], most: usize, into: &mut [u8]) -> usize
     ensures value { result ≡ min most (min (length into.old) (length left.now)) }
     ensures bytes { take result into.new ≡ take result left.now }

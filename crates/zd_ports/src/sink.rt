@@ -13,7 +13,7 @@ pub trait Sink: Drop {
     /// How often the sink has failed.
     ghost faults: { Self → ℕ };
 
-    /// Takes bytes from the front of `piece`, at least one, and answers how many.
+    /// Takes a prefix of `piece`, at least one byte, and answers how many bytes.
     ///
     /// `Failed` has taken none.
     fn write(&mut self, piece: &[u8]) -> Result<usize, Failed>

@@ -14,7 +14,7 @@ pub trait Source: Drop {
     /// How often the source has failed.
     ghost faults: { Self → ℕ };
 
-    /// Reads some bytes into the front of `into`, and answers how many; 0 is the end of input.
+    /// Reads bytes into the first places of `into`, and answers how many; 0 is the end of input.
     ///
     /// `Failed` leaves all bytes to be read.
     fn read(&mut self, into: &mut [u8]) -> Result<usize, Failed>

@@ -9,7 +9,7 @@ use zd_base::Failed;
 
 /// Hands out all bytes, in whatever pieces the sink takes them.
 ///
-/// `Failed` comes only where the sink failed. It has then taken a front of the bytes, maybe none of them.
+/// `Failed` comes only where the sink failed. It has then taken a prefix of the bytes, maybe none of them.
 pub fn write_all<K: Sink>(out: &mut K, bytes: &[u8]) -> Result<(), Failed>
     ensures taken { IfSome (K.held out.old) (λ before.
         Takes before (K.held out.new) bytes.now (IsOk result)) }

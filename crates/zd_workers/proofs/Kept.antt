@@ -6,25 +6,25 @@ use lib.ListN.{get_elem?}
 use prog.Atomic.{either}
 use Rattle.atomic_table.specs.Table.{State, Me, step, Act, keeps, takes, gives, rest, put_back, stepped, carried_after, Valid, Allows, Splits, Joins, opening as at_start}
 use Rattle.atomic_table.proofs.Lists.{at_set, set_else, set_again, at_snoc, at_longer}
-use Rattle.zd_workers.specs.declared.view.View.{View}
-use Rattle.zd_workers.specs.declared.view.Role.{Role}
-use Rattle.zd_workers.specs.declared.view.Role.TheVariants.{Spent, Waits, Opens, Holds}
-use Rattle.zd_workers.specs.Turns.{Place, free, opening, held, as_view, word_of, home_of, Fits, Knows, IsSeated, Carries, TurnKept, tried, opened, released, beside}
+use Rattle.zd_workers.specs.declared.view.SeatView.{SeatView}
+use Rattle.zd_workers.specs.declared.view.SeatRole.{SeatRole}
+use Rattle.zd_workers.specs.declared.view.SeatRole.TheVariants.{Spent, Waits, Opens, Holds}
+use Rattle.zd_workers.specs.Turns.{Place, free, opening, held, as_view, word_of, home_of, FitsPlace, Knows, IsSeated, Carries, TurnKept, tried, opened, released, beside}
 
 set_there : {A : Type 0} (l : List A) (i : ℕ) (a b : A) → get_elem? l i ≡ some a → get_elem? (set l i b) i ≡ some b
 set_there [] i a b e = absurd (some-ne-none a (sym e))
 set_there (x ∷ xs) zero a b e = refl
 set_there (x ∷ xs) (suc i) a b e = set_there xs i a b e
 
-seats_stay : (K : ℕ → View → Type 0) (vs : List View) (me : ℕ) (w : View) → K me w → ((j : ℕ) (d : View) → j ≢ me → get_elem? vs j ≡ some d → K j d) → (j : ℕ) (d : View) → get_elem? (set vs me w) j ≡ some d → K j d
-seats_stay K vs me w mine others j d e = ⊎_elim (λ (t : (j ≡ me) × (w ≡ d)). subst (λ (x : ℕ × View). K x.0 x.1) (λ i. (sym t.0 i, t.1 i)) mine)
+seats_stay : (K : ℕ → SeatView → Type 0) (vs : List SeatView) (me : ℕ) (w : SeatView) → K me w → ((j : ℕ) (d : SeatView) → j ≢ me → get_elem? vs j ≡ some d → K j d) → (j : ℕ) (d : SeatView) → get_elem? (set vs me w) j ≡ some d → K j d
+seats_stay K vs me w mine others j d e = ⊎_elim (λ (t : (j ≡ me) × (w ≡ d)). subst (λ (x : ℕ × SeatView). K x.0 x.1) (λ i. (sym t.0 i, t.1 i)) mine)
     (λ (t : (j ≢ me) × (get_elem? vs j ≡ some d)). others j d t.0 t.1) (at_set vs me j w d e)
 
-alone : (v : View) (K : ℕ → View → Type 0) → K 0 v → (j : ℕ) (d : View) → get_elem? (v ∷ []) j ≡ some d → K j d
+alone : (v : SeatView) (K : ℕ → SeatView → Type 0) → K 0 v → (j : ℕ) (d : SeatView) → get_elem? (v ∷ []) j ≡ some d → K j d
 alone v K here zero d e = subst (K 0) (some-injective v d e) here
 alone v K here (suc j) d e = absurd (some-ne-none d (sym e))
 
-live : (role other : Role) → role ≡ other → other ≢ Spent → role ≢ Spent
+live : (role other : SeatRole) → role ≡ other → other ≢ Spent → role ≢ Spent
 live role other e ne z = ne (sym e ∙ z)
 
 waits_live : Waits ≢ Spent
@@ -37,8 +37,8 @@ holds_live : Holds ≢ Spent
 holds_live e = cc
 
 -- the view at j is not one that waits
-elsewhere : (views : List View) (j other : ℕ) (v w : View) → get_elem? views j ≡ some v → get_elem? views other ≡ some w → v.role ≢ w.role → j ≢ other
-elsewhere views j other v w a b ne same = ne (ap (λ (x : View). x.role) (some-injective v w (sym a ∙ (ap (get_elem? views) same ∙ b))))
+elsewhere : (views : List SeatView) (j other : ℕ) (v w : SeatView) → get_elem? views j ≡ some v → get_elem? views other ≡ some w → v.role ≢ w.role → j ≢ other
+elsewhere views j other v w a b ne same = ne (ap (λ (x : SeatView). x.role) (some-injective v w (sym a ∙ (ap (get_elem? views) same ∙ b))))
 
 module _ {T : Type 0} where
   free_apart : (p : Place T) (x : T) (j : ℕ) → p ≡ free x → (p ≢ opening j) × (p ≢ held j)
@@ -51,37 +51,37 @@ module _ {T : Type 0} where
   held_apart p i j e other = ((λ z. cc), λ z. let same : j ≡ i = cc in absurd (other same))
 
   -- a seat that does not have the turn knows the same of any other place
-  others : (p q : Place T) (j : ℕ) → p ≢ opening j → p ≢ held j → (role : Role) → Fits p j role → Fits q j role
+  others : (p q : Place T) (j : ℕ) → p ≢ opening j → p ≢ held j → (role : SeatRole) → FitsPlace p j role → FitsPlace q j role
   others p q j a b Spent f = tt
   others p q j a b Waits f = tt
   others p q j a b Opens f = absurd (a f.0)
   others p q j a b Holds f = absurd (b f)
 
-  longer : (p : Place T) (views : List View) (w : View) → IsSeated p views → IsSeated p (views ++ w ∷ [])
+  longer : (p : Place T) (views : List SeatView) (w : SeatView) → IsSeated p views → IsSeated p (views ++ w ∷ [])
   longer (free x) views w h = tt
   longer (opening j) views w h = (h.0, at_longer views (w ∷ []) j h.0 h.1, h.2)
   longer (held j) views w h = (h.0, at_longer views (w ∷ []) j h.0 h.1, h.2)
 
-  without : (p : Place T) (views : List View) (other : ℕ) (w : View) → w.role ≡ Waits → get_elem? views other ≡ some w → IsSeated p views → IsSeated p (set views other (as_view Spent []))
+  without : (p : Place T) (views : List SeatView) (other : ℕ) (w : SeatView) → w.role ≡ Waits → get_elem? views other ≡ some w → IsSeated p views → IsSeated p (set views other (as_view Spent []))
   without (free x) views other w is there h = tt
   without (opening j) views other w is there h = let ne : j ≢ other = elsewhere views j other h.0 w h.1 there (λ z. let r = h.2 in cc) in (h.0, set_else views other j (as_view Spent []) ne ∙ h.1, h.2)
   without (held j) views other w is there h = let ne : j ≢ other = elsewhere views j other h.0 w h.1 there (λ z. let r = h.2 in cc) in (h.0, set_else views other j (as_view Spent []) ne ∙ h.1, h.2)
 
   module _ (constant_of : T → List (List ℕ)) where
     abbrev St : Type 0
-    St = State (Option T) View
+    St = State (Option T) SeatView
 
     abbrev M : Type 0
-    M = Me (Option T) View
+    M = Me (Option T) SeatView
 
     abbrev Rule : St → Type 0
     Rule = TurnKept constant_of
 
-    fits : (s : St) (r : Rule s) (id : ℕ) (v : View) (role : Role) → get_elem? s.views id ≡ some v → v.role ≡ role → Fits r.place id role
-    fits s r id v role at is = subst (Fits r.place id) is (r.each_seat id v at).1
+    fits : (s : St) (r : Rule s) (id : ℕ) (v : SeatView) (role : SeatRole) → get_elem? s.views id ≡ some v → v.role ≡ role → FitsPlace r.place id role
+    fits s r id v role at is = subst (FitsPlace r.place id) is (r.each_seat id v at).1
 
     -- the seat goes to the view w, and the turn to the place q
-    moved : (s : St) (r : Rule s) (id : ℕ) (v w : View) (q : Place T) (words' : List ℕ) (homes' : List (maybe.Option (Option T))) → get_elem? s.views id ≡ some v → words' ≡ word_of q ∷ [] → homes' ≡ home_of q ∷ []
+    moved : (s : St) (r : Rule s) (id : ℕ) (v w : SeatView) (q : Place T) (words' : List ℕ) (homes' : List (maybe.Option (Option T))) → get_elem? s.views id ≡ some v → words' ≡ word_of q ∷ [] → homes' ≡ home_of q ∷ []
         → Carries constant_of q r.constant → Knows q r.constant id w → ((j : ℕ) → j ≢ id → (r.place ≢ opening j) × (r.place ≢ held j)) → IsSeated q (set s.views id w)
         → Rule record { words = words'; homes = homes'; views = set s.views id w }
     moved s r id v w q words' homes' at words homes carries mine apart seated = record {
@@ -96,7 +96,7 @@ module _ {T : Type 0} where
     }
 
     -- nothing changes
-    stays : (s : St) (r : Rule s) (id : ℕ) (v : View) (words' : List ℕ) → get_elem? s.views id ≡ some v → words' ≡ s.words → Rule record { words = words'; homes = s.homes; views = set s.views id v }
+    stays : (s : St) (r : Rule s) (id : ℕ) (v : SeatView) (words' : List ℕ) → get_elem? s.views id ≡ some v → words' ≡ s.words → Rule record { words = words'; homes = s.homes; views = set s.views id v }
     stays s r id v words' at same = record {
       place = r.place;
       constant = r.constant;
@@ -108,7 +108,7 @@ module _ {T : Type 0} where
     }
 
     pub starts : (constant : List (List ℕ)) → Rule (at_start (1 ∷ []) (None ∷ []) (as_view Opens constant))
-    starts constant = let v : View = as_view Opens constant in let p : Place T = opening 0 in record {
+    starts constant = let v : SeatView = as_view Opens constant in let p : Place T = opening 0 in record {
       place = p;
       constant = constant;
       words = refl;
@@ -119,7 +119,7 @@ module _ {T : Type 0} where
     }
 
     lost : (slots id : ℕ) (me : M) (s : St) (r : Rule s) → get_elem? s.views id ≡ some me.0 → s.words ≡ 1 ∷ []
-        → (w : View) × (a : Act (Option T)) × Valid s.homes me.1 a × Rule (stepped s 0 (either (eqb (get_or s.words 0 0) 0) 1 (get_or s.words 0 0)) id me.1 w a)
+        → (w : SeatView) × (a : Act (Option T)) × Valid s.homes me.1 a × Rule (stepped s 0 (either (eqb (get_or s.words 0 0) 0) 1 (get_or s.words 0 0)) id me.1 w a)
         × tried constant_of (step slots 0 0 1 none) me (get_or s.words 0 0) (w, carried_after me.1 a)
     lost slots id me s r at words =
         let found : get_or s.words 0 0 ≡ 1 = ap (λ (l : List ℕ). get_or l 0 0) words in (
@@ -131,7 +131,7 @@ module _ {T : Type 0} where
         )
 
     tries_at : (slots id : ℕ) (me : M) → me.0.role ≡ Waits → (s : St) (r : Rule s) → get_elem? s.views id ≡ some me.0 → (p : Place T) → r.place ≡ p
-        → (w : View) × (a : Act (Option T)) × Valid s.homes me.1 a × Rule (stepped s 0 (either (eqb (get_or s.words 0 0) 0) 1 (get_or s.words 0 0)) id me.1 w a)
+        → (w : SeatView) × (a : Act (Option T)) × Valid s.homes me.1 a × Rule (stepped s 0 (either (eqb (get_or s.words 0 0) 0) 1 (get_or s.words 0 0)) id me.1 w a)
         × tried constant_of (step slots 0 0 1 none) me (get_or s.words 0 0) (w, carried_after me.1 a)
     tries_at slots id me is s r at (free x) e =
         let words : s.words ≡ 0 ∷ [] = r.words ∙ ap (λ (p : Place T). word_of p ∷ []) e in
@@ -139,7 +139,7 @@ module _ {T : Type 0} where
         let found : get_or s.words 0 0 ≡ 0 = ap (λ (l : List ℕ). get_or l 0 0) words in
         let same : me.0.constant ≡ r.constant = (r.each_seat id me.0 at).0 (live me.0.role Waits is waits_live) in
         let fits_it : constant_of x ≡ r.constant = subst (λ (p : Place T). Carries constant_of p r.constant) e r.carries in
-        let w : View = as_view Holds me.0.constant in (
+        let w : SeatView = as_view Holds me.0.constant in (
           w,
           takes 0 (Some x),
           ap (λ (l : List (maybe.Option (Option T))). get_elem? l 0) homes,
@@ -159,7 +159,7 @@ module _ {T : Type 0} where
         let words : s.words ≡ 1 ∷ [] = r.words ∙ ap (λ (p : Place T). word_of p ∷ []) e in
         let homes : s.homes ≡ some None ∷ [] = r.homes ∙ ap (λ (p : Place T). home_of p ∷ []) e in
         let same : me.0.constant ≡ r.constant = (r.each_seat id me.0 at).0 (live me.0.role Opens is opens_live) in
-        let w : View = as_view Holds me.0.constant in (
+        let w : SeatView = as_view Holds me.0.constant in (
           w,
           takes 0 None,
           ap (λ (l : List (maybe.Option (Option T))). get_elem? l 0) homes,
@@ -174,7 +174,7 @@ module _ {T : Type 0} where
         let words : s.words ≡ 1 ∷ [] = r.words ∙ ap (λ (p : Place T). word_of p ∷ []) e in
         let homes : s.homes ≡ none ∷ [] = r.homes ∙ ap (λ (p : Place T). home_of p ∷ []) e in
         let same : me.0.constant ≡ r.constant = (r.each_seat id me.0 at).0 (live me.0.role Holds is holds_live) in
-        let w : View = as_view Waits me.0.constant in (
+        let w : SeatView = as_view Waits me.0.constant in (
           w,
           gives,
           tt,
@@ -184,8 +184,8 @@ module _ {T : Type 0} where
           ap (λ (l : List (ℕ × Option T)). let m : M = (w, rest l) in m) carried,
         )
 
-    pub splits : (id : ℕ) (v : View) → v.role ≡ Waits → Splits Rule id v v (beside v)
-    splits id v is s r at = let w : View = beside v in record {
+    pub splits : (id : ℕ) (v : SeatView) → v.role ≡ Waits → Splits Rule id v v (beside v)
+    splits id v is s r at = let w : SeatView = beside v in record {
       place = r.place;
       constant = r.constant;
       words = r.words;
@@ -196,8 +196,8 @@ module _ {T : Type 0} where
       seated = longer r.place (set s.views id v) w (subst (IsSeated r.place) (sym (set_again s.views id v at)) r.seated);
     }
 
-    pub joins : (id : ℕ) (v : View) (other : ℕ) (w : View) → w.role ≡ Waits → Joins Rule id v other w v (as_view Spent [])
-    joins id v other w is s r at apart there = let vs : List View = set s.views id v in let same : vs ≡ s.views = set_again s.views id v at in record {
+    pub joins : (id : ℕ) (v : SeatView) (other : ℕ) (w : SeatView) → w.role ≡ Waits → Joins Rule id v other w v (as_view Spent [])
+    joins id v other w is s r at apart there = let vs : List SeatView = set s.views id v in let same : vs ≡ s.views = set_again s.views id v at in record {
       place = r.place;
       constant = r.constant;
       words = r.words;

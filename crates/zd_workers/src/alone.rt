@@ -22,8 +22,8 @@ pub fn preference(actor: u32, actors: u32) -> Prefer
     }
 }
 
-/// Steps for one actor after the other until the stepper has ended, and passes the gate after each
-/// step that was made.
+/// Makes one step for each actor in turn, from actor 0 on and round after round, until the stepper
+/// has ended, and passes the gate after each step that was made. An idle actor's turn is over too.
 pub fn drive<T: Stepper, G: Gate, R: Wait>(rt: &R, mut stepper: T, actors: u32, gate: &G) -> T
     requires some { 0 < actors }
     requires actors { actors ≡ actors_of (T.constant stepper) }

@@ -63,7 +63,7 @@ fn take<T: Stepper, R: Wait>(rt: &R, turn: Turn<T>, mut seat: Seated<T>) -> T
 }
 
 /// Runs the actors, each in a thread of its own where one can be started, and gives the stepper as
-/// they left it. Where memory is wanting it may not have ended.
+/// they left it. Out of memory, it may not have ended.
 fn share<T: Stepper, G: Gate + Sync, R: Threads + Wait + Sync>(
     rt: &R,
     alloc: Global,
@@ -93,11 +93,12 @@ fn share<T: Stepper, G: Gate + Sync, R: Threads + Wait + Sync>(
 
 /// Has this many actors, 1 to 64 and the number that the stepper names, step it until it has ended,
 /// and gives it back. The actors take turns, each in a thread of its own where one can be started,
-/// and an actor passes the gate after each step that it made, while others may step.
+/// and an actor passes the gate after each step that it made, while others may step. An actor for
+/// which no thread can be started begins only when another has left, and then the stepper has ended.
 ///
 /// Of two and more actors the last prefers commits, of three and more the one before it prefers
-/// jobs; all others prefer pieces. Where no memory is found for the turn, the seats or the threads,
-/// the caller steps what is left, for one actor after the other.
+/// jobs; all others prefer pieces. Out of memory for the turn, the seats or the threads, the caller
+/// drives what is left alone: one step for each actor in turn, from actor 0 on, round after round.
 ///
 /// Nothing is promised of time, or that a turn comes to an actor: it waits, and may not return.
 pub fn run_actors<T: Stepper, G: Gate + Sync, R: Threads + Wait + Sync>(

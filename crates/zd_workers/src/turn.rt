@@ -3,25 +3,25 @@ ghost use Rattle.std.specs.Prelude.{◌≡◌, IfOk, IfErr, IfSome, IfNone};
 ghost use Rattle.zd_workers.specs.Turns.{IsWaiting, IsHolding, constant_at};
 
 use crate::plays::{Fewer, More, Open, Release, Try};
-use crate::view::{TheTurn, View};
+use crate::view::{SeatView, TheTurn};
 use atomic_table::{Seat, Table};
 use std::alloc::Global;
 use std::snapshot::Snapshot;
 use zd_ports::Stepper;
 
 /// A seat at the turn.
-pub type Seated<T> = Seat<Option<T>, View>;
+pub type Seated<T> = Seat<Option<T>, SeatView>;
 
 /// A stepper in the slot of a table, which one seat at a time may take out.
 #[derive(Drop)]
 pub struct Turn<T: Stepper> {
-    pub table: Table<Option<T>, View, Snapshot<T>, TheTurn<T>, Global>,
+    pub table: Table<Option<T>, SeatView, Snapshot<T>, TheTurn<T>, Global>,
     ghost sized: { (table.shared.table_id.words ≡ 1) × (table.shared.table_id.slots ≡ 1) },
 }
 
 impl<T: Stepper> Turn<T> {
-    /// The turn with the stepper in its slot, and a first seat, which waits. The stepper comes back
-    /// where there is no memory.
+    /// The turn with the stepper in its slot, and a first seat, which waits. Out of memory, the
+    /// stepper comes back.
     pub fn new(alloc: Global, stepper: T) -> Result<(Turn<T>, Seated<T>), T>
         ensures ok { IfOk result (λ made.
             IsWaiting made.0.table.shared.table_id (T.constant stepper) made.1) }

@@ -1,7 +1,7 @@
 use Rattle.std.proofs.Common.{◌+◌, ◌-◌, ◌≤◌, ℕ, List, Option, drop, length, arith, length-take, length-drop, subst, sym}
 use Rattle.std.proofs.lemmas.Bool.{false≢true}
 use Rattle.std.proofs.lemmas.List.{drop_all}
-use Rattle.zd_ports.proofs.SinkLaws.{HoldsMore, held_more, took_front}
+use Rattle.zd_ports.proofs.SinkLaws.{HoldsMore, held_more, took_prefix}
 use Rattle.zd_ports.proofs.writing.write_all.Goals as goal
 
 pub loop-at-preserved : goal.loop-at-preserved
@@ -20,12 +20,12 @@ loop-at-preserved g c =
 
 pub returns-clause-taken : goal.returns-clause-taken
 returns-clause-taken g c =
-    took_front _ (g.K.Sink.held c.loop-at.out) c.args.bytes.now c.loop-at.at _
+    took_prefix _ (g.K.Sink.held c.loop-at.out) c.args.bytes.now c.loop-at.at _
     c.loop-at.invariant.held (λ ok. drop_all c.loop-at.at c.args.bytes.now c.loop-at-test.false)
 
 pub returns-in_default-clause-taken : goal.returns-in_default-clause-taken
 returns-in_default-clause-taken g c =
     let old = g.K.Sink.held c.args.out.now in
-    took_front old (g.K.Sink.held c.write.new.self) c.args.bytes.now c.loop-at.at _
+    took_prefix old (g.K.Sink.held c.write.new.self) c.args.bytes.now c.loop-at.at _
     (subst (λ (here : Option (List ℕ)). HoldsMore old here c.args.bytes.now c.loop-at.at) (sym c.in_default.ensures.err) c.loop-at.invariant.held)
     (λ ok. absurd (false≢true ok))

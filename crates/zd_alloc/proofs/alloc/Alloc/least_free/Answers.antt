@@ -1,4 +1,4 @@
--- Sequential zones come behind the conventional ones.
+-- Sequential zones come after the conventional ones.
 use Rattle.zd_alloc.proofs.DivisionLaws.{right_least}
 use Rattle.zd_alloc.proofs.alloc.Alloc.least_free.Goals as goal
 

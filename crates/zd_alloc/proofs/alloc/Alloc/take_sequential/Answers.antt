@@ -1,4 +1,4 @@
--- Sequential zones come behind the conventional ones.
+-- Sequential zones come after the conventional ones.
 use Rattle.zd_alloc.proofs.DivisionLaws.{right_takes}
 use Rattle.zd_alloc.proofs.alloc.Alloc.take_sequential.Goals as goal
 

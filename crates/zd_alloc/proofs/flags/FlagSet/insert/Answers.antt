@@ -6,4 +6,4 @@ use Rattle.zd_alloc.proofs.flags.FlagSet.insert.Goals as goal
 pub invariant_of-self : goal.invariant_of-self
 invariant_of-self c =
     summed_raised c.self.inside.words.items c.self.inside.summary.items _ _ (c.args.n / 64) c.self.invariant
-    c.raise.ensures.length c.raise-2.ensures.length c.raise.ensures.words c.raise-2.ensures.flag c.raise.ensures.some
+    c.raise_flag.ensures.length c.raise_flag-2.ensures.length c.raise_flag.ensures.words c.raise_flag-2.ensures.flag c.raise_flag.ensures.some

@@ -1,4 +1,4 @@
--- Each chunk is put behind those before it.
+-- Each chunk is put after those before it.
 use Rattle.std.proofs.Common.{◌≡◌, ℕ, List, sym, subst, ◌∙◌, arith}
 use Rattle.std.specs.List.{range_with_len}
 use Rattle.zd_alloc.specs.Links.{IsRing}

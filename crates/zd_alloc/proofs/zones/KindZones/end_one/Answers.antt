@@ -1,6 +1,6 @@
 -- The zone was in limbo.
 use Rattle.zd_alloc.proofs.TallyLaws.{kept_ended, limbo_there, limbo_inside, ended_none, ended_one}
-use Rattle.zd_alloc.proofs.zones.Zones.end_one.Goals as goal
+use Rattle.zd_alloc.proofs.zones.KindZones.end_one.Goals as goal
 
 pub returns-in_default-clause-none : goal.returns-in_default-clause-none
 returns-in_default-clause-none c =

@@ -1,7 +1,7 @@
 -- One bit of one word is set.
 use Rattle.std.proofs.Common.{◌/◌}
 use Rattle.zd_alloc.proofs.FlagLaws.{word_is, raised, raised_there}
-use Rattle.zd_alloc.proofs.words.raise.Goals as goal
+use Rattle.zd_alloc.proofs.words.raise_flag.Goals as goal
 
 pub returns-clause-flag : goal.returns-clause-flag
 returns-clause-flag c =

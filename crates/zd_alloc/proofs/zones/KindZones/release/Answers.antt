@@ -1,6 +1,6 @@
 -- The zone was held.
 use Rattle.zd_alloc.proofs.TallyLaws.{kept_freed, kept_limbo}
-use Rattle.zd_alloc.proofs.zones.Zones.release.Goals as goal
+use Rattle.zd_alloc.proofs.zones.KindZones.release.Goals as goal
 
 pub invariant_of-self : goal.invariant_of-self
 invariant_of-self c =

@@ -1,6 +1,6 @@
 -- The zone was free.
 use Rattle.zd_alloc.proofs.TallyLaws.{kept_taken}
-use Rattle.zd_alloc.proofs.zones.Zones.take.Goals as goal
+use Rattle.zd_alloc.proofs.zones.KindZones.take.Goals as goal
 
 pub invariant_of-self : goal.invariant_of-self
 invariant_of-self c =

@@ -1,7 +1,7 @@
 -- One bit of one word is cleared.
 use Rattle.std.proofs.Common.{◌/◌}
 use Rattle.zd_alloc.proofs.FlagLaws.{word_is, lowered}
-use Rattle.zd_alloc.proofs.words.lower.Goals as goal
+use Rattle.zd_alloc.proofs.words.lower_flag.Goals as goal
 
 pub returns-clause-flag : goal.returns-clause-flag
 returns-clause-flag c =
