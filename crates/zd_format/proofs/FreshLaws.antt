@@ -4,7 +4,8 @@ use Rattle.std.proofs.Math.Seq.{take-length}
 use Rattle.std.proofs.lemmas.List.{drop-replicate, take-replicate, length-replicate}
 use Rattle.zd_model.specs.Super.{block_of}
 use Rattle.zd_model.specs.declared.metadata.Super.{Super}
-use Rattle.zd_format.specs.Sets.{IsFreshBlock, NamesNothing, blocks_in, block_in, zero_blocks}
+use Rattle.zd_format.specs.Sets.{IsFreshBlock, NamesNothing, block_in, zero_blocks}
+use Rattle.zd_disk.specs.Runs.{blocks_in}
 
 -- the bytes of one block are that block
 whole_block : (bytes : List ℕ) (j : ℕ) → length bytes ≡ 4096 → j ≡ 0 → block_in bytes j ≡ bytes

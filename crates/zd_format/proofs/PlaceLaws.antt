@@ -5,15 +5,6 @@ use Rattle.std.proofs.lemmas.Bool.{cases_lt}
 use Rattle.std.proofs.lemmas.Nat.{div-mul-add, mod-mul-add, div-add-mod'}
 use Rattle.zd_base.specs.Layout.{rounded_up}
 
--- the jth block behind block b, in the same zone
-pub place_in_zone : (b j w : ℕ) → b % w + j < w → ((b + j) / w ≡ b / w) × ((b + j) % w ≡ b % w + j)
-place_in_zone b j w inside =
-    let whole = div-add-mod' b w in
-    let at : b + j ≡ b / w * w + (b % w + j) = omega (arith, whole) in (
-      ap (λ n. n / w) at ∙ div-mul-add (b / w) w (b % w + j) inside,
-      ap (λ n. n % w) at ∙ mod-mul-add (b / w) w (b % w + j) inside,
-    )
-
 -- of two blocks of the disk the first has the lesser zone, or the lesser place in the same zone
 pub earlier_place : (z x y r w : ℕ) → x < w → r < w → z * w + x < y * w + r → (z < y) ⊎ ((z ≡ y) × (x < r))
 earlier_place z x y r w xs rs h = by (cases_lt z y)

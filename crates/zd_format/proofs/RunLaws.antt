@@ -7,8 +7,10 @@ use Rattle.zd_base.specs.Geometry.{Shape, IsShape}
 use Rattle.zd_model.specs.Image.{Image, IsImage, run_of, block_at, set_block}
 use Rattle.zd_model.proofs.SameLaws.{same_run}
 use Rattle.zd_disk.specs.Steps.{Wrote, piece}
-use Rattle.zd_format.specs.Sets.{PutBlocks, blocks_in, block_in}
-use Rattle.zd_format.proofs.PlaceLaws.{place_in_zone, earlier_place, place_of}
+use Rattle.zd_format.specs.Sets.{PutBlocks, block_in}
+use Rattle.zd_disk.specs.Runs.{blocks_in}
+use Rattle.zd_format.proofs.PlaceLaws.{earlier_place, place_of}
+use Rattle.zd_disk.proofs.RunLaws.{place_in_zone}
 
 -- sectors that were put are the bytes
 run_put : (n a start : ℕ) (sector : ℕ → List ℕ) (bytes : List ℕ) → ((j : ℕ) → a ≤ j → j < a + n → sector (start + j) ≡ piece bytes j)

@@ -10,7 +10,8 @@ use Rattle.zd_model.proofs.SameLaws.{same_block}
 use Rattle.zd_disk.specs.Told.{WhereTold}
 use Rattle.zd_disk.specs.View.{Turns, View}
 use Rattle.zd_disk.proofs.ViewLaws.{turned_back}
-use Rattle.zd_format.specs.Sets.{IsFreshBlock, HasWritten, HasBothSets, IsFittingSet, placed}
+use Rattle.zd_format.specs.Sets.{IsFreshBlock, HasWritten, HasBothSets, IsFittingSet}
+use Rattle.zd_model.specs.Super.{with_own}
 use Rattle.zd_format.proofs.PlaceLaws.{within_zones}
 use Rattle.zd_format.proofs.SetLaws.{zone_low}
 
@@ -20,10 +21,10 @@ module _ (g : Shape) (head : Super) (shape : IsShape g) (fits : Fits g head.layo
   n = set_zones g head.layout
 
   abbrev other : Super
-  other = placed (n * g.zone_blocks) head
+  other = with_own (n * g.zone_blocks) head
 
-  back : placed 0 other ≡ head
-  back = ap (λ (o : ℕ). placed o head) (sym own)
+  back : with_own 0 other ≡ head
+  back = ap (λ (o : ℕ). with_own o head) (sym own)
 
   some_zone : 0 < n
   some_zone =

@@ -9,7 +9,9 @@ use Rattle.zd_model.specs.declared.metadata.Super.{Super}
 use Rattle.zd_disk.specs.Told.{WhereTold}
 use Rattle.zd_disk.specs.View.{Turns, View}
 use Rattle.zd_disk.proofs.ViewLaws.{turned_back}
-use Rattle.zd_format.specs.Sets.{IsFreshBlock, PutBlocks, HasWritten, IsFittingSet, blocks_in, block_in, placed}
+use Rattle.zd_format.specs.Sets.{IsFreshBlock, PutBlocks, HasWritten, IsFittingSet, block_in}
+use Rattle.zd_disk.specs.Runs.{blocks_in}
+use Rattle.zd_model.specs.Super.{with_own}
 use Rattle.zd_format.proofs.PlaceLaws.{within_zones, zone_within}
 
 -- a set behind zone 0 begins behind all blocks of the first
@@ -34,7 +36,7 @@ written_more g head first b bytes old new set fresh put written = record {
       let behind = behind_first g head first set some in
       let same : old.geometry.zone_blocks ≡ g.zone_blocks = ap (λ (s : Shape). s.zone_blocks) written.geometry in
       let scaled : first * old.geometry.zone_blocks ≡ first * g.zone_blocks = ap (λ (n : ℕ). first * n) same in
-      subst (IsFreshBlock (placed 0 head) k) (sym (put.before 0 k (omega (arith, behind, scaled, low)))) (written.earlier some k low);
+      subst (IsFreshBlock (with_own 0 head) k) (sym (put.before 0 k (omega (arith, behind, scaled, low)))) (written.earlier some k low);
   blocks = λ k low. by k low (cases_lt k b);
 }
   where

@@ -12,7 +12,7 @@ use Rattle.zd_base.specs.Layout.{Fits, formatted, set_zones, device_blocks}
 use Rattle.zd_base.specs.declared.layout.Layout.{Layout}
 use Rattle.zd_model.specs.Bytes.{zero_sector}
 use Rattle.zd_model.specs.Image.{Image, block_at, set_block}
-use Rattle.zd_model.specs.Super.{HasSizes, block_of, decoded}
+use Rattle.zd_model.specs.Super.{HasBlock, block_of, decoded}
 use Rattle.zd_model.specs.Tables.{Tables, MapFollowsRules, BitsFollowRules, served}
 use Rattle.zd_model.specs.Volume.{Chosen, IsWellFormed, good_super, if_own, second_super, chosen, chosen_with, greater_of, first_set, scanned, tables_of, entry_in, bits_in, bitmap_block, content}
 use Rattle.zd_model.specs.declared.metadata.MapEntry.{MapEntry}
@@ -34,7 +34,7 @@ first_block image f =
     let at : f ≡ f + 0 / w = (let none = zero-div w in omega (arith, none)) in
     ap₂ (λ (z x : ℕ). block_at image z x) at (sym (zero-mod w))
 
-good_at : (image : Image) (f : ℕ) (s : Super) → set_block image f 0 ≡ block_of s → HasSizes s → s.own ≡ f * image.geometry.zone_blocks
+good_at : (image : Image) (f : ℕ) (s : Super) → set_block image f 0 ≡ block_of s → HasBlock s → s.own ≡ f * image.geometry.zone_blocks
     → good_super image f ≡ Some s
 good_at image f s is sizes own =
     ap (λ (block : List ℕ). if_own (f * image.geometry.zone_blocks) (decoded block)) (first_block image f ∙ is)
@@ -75,7 +75,7 @@ one_zero_block = refl
 -- both sets of a volume with this layout
 module _ (image : Image) (reserved : ℕ) (layout : Layout) (label volume : List ℕ) (shape : IsShape image.geometry)
     (is : layout ≡ formatted image.geometry reserved) (fits : Fits image.geometry layout)
-    (sizes : HasSizes (head_of layout label volume 0)) (sets : HasBothSets image.geometry (head_of layout label volume 0) image) where
+    (sizes : HasBlock (head_of layout label volume 0)) (sets : HasBothSets image.geometry (head_of layout label volume 0) image) where
   abbrev g : Shape
   g = image.geometry
 
@@ -91,7 +91,7 @@ module _ (image : Image) (reserved : ℕ) (layout : Layout) (label volume : List
   abbrev c : Chosen
   c = first_set n head
 
-  other_sizes : HasSizes other
+  other_sizes : HasBlock other
   other_sizes =
       let size = shape.size.most in
       let count = shape.count.most in

@@ -19,9 +19,10 @@ unfoldable pub device_of : List ℕ → List ℕ
 device_of volume =
     with_version (with_variant (take 16 (sha1 (volume ++ codes "device 0"))) RFC4122) Sha1
 
--- the head of a set whose super block has this number among the disk's blocks
+-- the head of a set, in version 2, whose super block has this number among the disk's blocks
 abbrev pub head_of : Layout → List ℕ → List ℕ → ℕ → Super
 head_of layout label volume own = record {
+  version = 2;
   generation = 1;
   own = own;
   layout = layout;

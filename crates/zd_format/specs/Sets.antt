@@ -3,16 +3,14 @@ use Rattle.std.specs.Prelude.{◌≡◌, ◌⊎◌, ℕ, ◌+◌, ◌*◌, ◌/�
 use Rattle.std.specs.Prelude.{List, length, take, drop, replicate}
 use Rattle.zd_base.specs.Geometry.{Shape, IsShape}
 use Rattle.zd_base.specs.Layout.{Fits, set_zones}
+use Rattle.zd_disk.specs.Runs.{blocks_in}
 use Rattle.zd_model.specs.Image.{Image, set_block}
-use Rattle.zd_model.specs.Super.{block_of}
+use Rattle.zd_model.specs.Super.{block_of, with_own}
 use Rattle.zd_model.specs.Tables.{entry_at}
 use Rattle.zd_model.specs.declared.metadata.Super.{Super}
 use Rattle.zd_map.specs.Numbers.{unmapped}
 
--- how many blocks these bytes are, and the jth of them
-abbrev pub blocks_in : List ℕ → ℕ
-blocks_in bytes = length bytes / 4096
-
+-- the jth block of these bytes
 abbrev pub block_in : List ℕ → ℕ → List ℕ
 block_in bytes j = take 4096 (drop (4096 * j) bytes)
 
@@ -39,10 +37,6 @@ pub record PutBlocks (first b : ℕ) (bytes : List ℕ) (old new : Image) : Type
       f * old.geometry.zone_blocks + k < first * old.geometry.zone_blocks + b →
       set_block new f k ≡ set_block old f k
 
--- the head with another number of its own
-abbrev pub placed : ℕ → Super → Super
-placed own head = record head { own = own }
-
 -- the set that begins in zone `first` has this head, and is one of the two that fit
 pub record IsFittingSet (g : Shape) (head : Super) (first : ℕ) : Type 0 where
   pub shape : IsShape g
@@ -54,7 +48,7 @@ pub record IsFittingSet (g : Shape) (head : Super) (first : ℕ) : Type 0 where
 pub record HasWritten (g : Shape) (head : Super) (first b : ℕ) (image : Image) : Type 0 where
   pub geometry : image.geometry ≡ g
   pub earlier : 0 < first → (k : ℕ) → k < head.layout.meta_blocks →
-      IsFreshBlock (placed 0 head) k (set_block image 0 k)
+      IsFreshBlock (with_own 0 head) k (set_block image 0 k)
   pub blocks : (k : ℕ) → k < b → IsFreshBlock head k (set_block image first k)
 
 -- both sets are written, the first with this head
@@ -62,5 +56,5 @@ pub record HasBothSets (g : Shape) (head : Super) (image : Image) : Type 0 where
   pub geometry : image.geometry ≡ g
   pub first : (k : ℕ) → k < head.layout.meta_blocks → IsFreshBlock head k (set_block image 0 k)
   pub second : (k : ℕ) → k < head.layout.meta_blocks →
-      IsFreshBlock (placed (set_zones g head.layout * g.zone_blocks) head) k
+      IsFreshBlock (with_own (set_zones g head.layout * g.zone_blocks) head) k
       (set_block image (set_zones g head.layout) k)

@@ -2,10 +2,11 @@
 
 ghost use Rattle.std.specs.Prelude.{◌≡◌};
 ghost use Rattle.zd_format.specs.Fresh.{device_of, head_of};
-ghost use Rattle.zd_model.specs.Super.{HasSizes};
+ghost use Rattle.zd_model.specs.Super.{HasBlock};
 
 use uuid::Uuid;
 use zd_model::{Layout, Super};
+use zd_super::NAMED_VERSION;
 
 /// The name of the one device in its volume.
 const DEVICE: &str = "device 0";
@@ -18,12 +19,13 @@ fn device_of(volume: &Uuid) -> Uuid
     Uuid::new_v5(volume, DEVICE.as_bytes())
 }
 
-/// The head of the first set.
+/// The head of the first set, in version 2.
 pub fn head_of(layout: Layout, label: [u8; 32], volume: Uuid) -> Super
     ensures value { result ≡ head_of layout label volume 0 }
-    ensures sizes { HasSizes result }
+    ensures sizes { HasBlock result }
 {
     Super {
+        version: NAMED_VERSION,
         generation: 1,
         own: 0,
         layout,

@@ -2,34 +2,19 @@
 
 ghost use Rattle.std.specs.Prelude.{◌≡◌, ◌+◌, ◌*◌, ◌/◌, ◌%◌, ◌<◌, ◌≤◌, Some, OnOk, IfOk, length};
 ghost use Rattle.zd_disk.specs.View.{Fails, Stays, Turns};
-ghost use Rattle.zd_format.specs.Sets.{PutBlocks, blocks_in, zero_blocks};
+ghost use Rattle.zd_disk.specs.Runs.{blocks_in};
+ghost use Rattle.zd_format.specs.Sets.{PutBlocks, zero_blocks};
 
 use std::alloc::{AllocError, Global};
 use zd_base::{BLOCK, Failed, Geometry, ZoneNo};
-use zd_disk::ZonedDisk;
-
-/// The most blocks that a call writes.
-const MOST: u32 = 32;
+use zd_disk::{RUN_BLOCKS, ZonedDisk};
 
 /// As many blocks of zeros as a call writes at most.
 #[tactic(auto, unfolding(crate::specs::Sets::zero_blocks))]
 pub fn zero_run(alloc: Global) -> Result<Vec<u8>, AllocError>
     ensures { IfOk result (λ zeros. zeros.items ≡ zero_blocks 32) }
 {
-    vec![in alloc; 0u8; BLOCK * MOST as usize]
-}
-
-/// How many blocks the next call writes: as many as are left and as the zone takes, at most 32.
-pub fn run_length(geometry: &Geometry, block: u32, end: u32) -> u32
-    requires { block < end }
-    ensures some { 0 < result }
-    ensures most { result ≤ 32 }
-    ensures end { block + result ≤ end }
-    ensures within { block % geometry.now.zone_blocks + result ≤ geometry.now.zone_blocks }
-{
-    let zone_blocks = geometry.zone_blocks();
-    let left = zone_blocks - block % zone_blocks;
-    (end - block).min(left).min(MOST)
+    vec![in alloc; 0u8; BLOCK * RUN_BLOCKS as usize]
 }
 
 /// Writes blocks of the set that begins in zone `first`, from this one on, all in one conventional

@@ -5,11 +5,12 @@ ghost use Rattle.zd_base.specs.Geometry.{IsShape};
 ghost use Rattle.zd_base.specs.Layout.{Fits};
 ghost use Rattle.zd_disk.specs.Told.{WhereTold};
 ghost use Rattle.zd_disk.specs.View.{Fails, Holds, Stays};
+ghost use Rattle.zd_model.specs.Super.{FitsVersion};
 ghost use Rattle.zd_format.specs.Sets.{HasBothSets, HasWritten, IsFittingSet, zero_blocks};
 
-use crate::runs::{run_length, write_run};
+use crate::runs::write_run;
 use zd_base::{BLOCK, Failed, Geometry};
-use zd_disk::ZonedDisk;
+use zd_disk::{ZonedDisk, run_length};
 use zd_map::blank;
 use zd_model::Super;
 use zd_super::encode;
@@ -22,6 +23,7 @@ fn write_head<D: ZonedDisk>(
     first: u32,
 ) -> Result<(), Failed>
     requires told { (D.view disk.old).told ≡ Some geometry.now }
+    requires version { FitsVersion head.now }
     requires set { IsFittingSet geometry.now head.now first }
     requires zones { WhereTold (D.view disk.old).zones (HasWritten geometry.now head.now first 0) }
     ensures ok { OnOk result (WhereTold (D.view disk.new).zones
@@ -100,6 +102,7 @@ fn write_set<D: ZonedDisk>(
     zeros: &[u8],
 ) -> Result<(), Failed>
     requires told { (D.view disk.old).told ≡ Some geometry.now }
+    requires version { FitsVersion head.now }
     requires set { IsFittingSet geometry.now head.now first }
     requires zeros { zeros.now ≡ zero_blocks 32 }
     requires zones { WhereTold (D.view disk.old).zones (HasWritten geometry.now head.now first 0) }
@@ -122,6 +125,7 @@ pub fn write_sets<D: ZonedDisk>(
 ) -> Result<(), Failed>
     requires told { (D.view disk.old).told ≡ Some geometry.now }
     requires fits { Fits geometry.now head.now.layout }
+    requires version { FitsVersion head.now }
     requires own { head.now.own ≡ 0 }
     requires zeros { zeros.now ≡ zero_blocks 32 }
     ensures shape { IsShape geometry.now }

@@ -98,6 +98,10 @@ spelled s crc = before_crc s ++ to_le_bytes w32 crc ++ behind_crc s
 unfoldable pub block_of : Super → List ℕ
 block_of s = spelled s (crc32_le (s.generation % 2 ^ 32) (spelled s 0))
 
+-- a record with another own number
+abbrev pub with_own : ℕ → Super → Super
+with_own own s = record s { own = own }
+
 -- a version that there is, and no more than it has: in version 1 a label of zeros and nil identifiers
 pub record FitsVersion (s : Super) : Type 0 where
   pub version : IsVersion s.version

@@ -9,7 +9,7 @@ use Rattle.zd_base.specs.Layout.{Fits, set_zones, used_blocks}
 use Rattle.zd_base.specs.declared.layout.Layout.{Layout}
 use Rattle.zd_model.specs.Image.{Image, IsImage, Same, block_at, run_of, set_block}
 use Rattle.zd_model.specs.Bytes.{zero_sector}
-use Rattle.zd_model.specs.Super.{HasSizes, block_of, decoded}
+use Rattle.zd_model.specs.Super.{HasBlock, block_of, decoded}
 use Rattle.zd_model.specs.Volume.{good_super, if_own}
 use Rattle.zd_model.specs.declared.metadata.Super.{Super}
 use Rattle.zd_model.proofs.SectorLaws.{length-zero_sector}
@@ -182,7 +182,7 @@ first_block image zone =
     ap₂ (λ (z x : ℕ). block_at image z x) at (zero-mod n)
 
 -- the super block of a head is good at its own number
-pub good_at : (image : Image) (zone : ℕ) (s : Super) → set_block image zone 0 ≡ block_of s → HasSizes s
+pub good_at : (image : Image) (zone : ℕ) (s : Super) → set_block image zone 0 ≡ block_of s → HasBlock s
     → s.own ≡ zone * image.geometry.zone_blocks → good_super image zone ≡ Some s
 good_at image zone s is sizes own =
     ap (λ (block : List ℕ). if_own (zone * image.geometry.zone_blocks) (decoded block)) (sym (first_block image zone) ∙ is)
@@ -226,7 +226,7 @@ cleared g zone good a b c shape first image low some bad w same =
 
 -- a super block that is written is good, and a flush leaves it so
 pub super_put : (g : Shape) (zone : ℕ) (head : Super) (a b c : Image) → a.geometry ≡ g → IsImage a → IsImage b → zone < g.conv
-    → 0 < g.zone_blocks → HasSizes (head_at g zone head) → WroteBlock zone 0 (block_of (head_at g zone head)) a b → Same b c
+    → 0 < g.zone_blocks → HasBlock (head_at g zone head) → WroteBlock zone 0 (block_of (head_at g zone head)) a b → Same b c
     → HasSuper g zone head a c
 super_put g zone head a b c shape first image low some sizes w same =
     let conv = ap (λ (s : Shape). s.conv) shape in

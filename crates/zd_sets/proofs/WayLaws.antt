@@ -5,7 +5,7 @@ use Rattle.std.proofs.lemmas.List.{length-replicate}
 use Rattle.zd_base.specs.Geometry.{IsShape, Shape}
 use Rattle.zd_base.specs.Layout.{used_blocks}
 use Rattle.zd_model.specs.Image.{Image, IsImage, block_at, set_block}
-use Rattle.zd_model.specs.Super.{HasSizes, block_of}
+use Rattle.zd_model.specs.Super.{HasBlock, block_of}
 use Rattle.zd_model.specs.Volume.{good_super, has_magic}
 use Rattle.zd_model.proofs.SameLaws.{same_block}
 use Rattle.zd_model.proofs.SuperSpelling.{spells}
@@ -79,7 +79,7 @@ part_block g first i bytes a b shape image some inside size w =
     }
 
 pub part_super : (g : Shape) (c : Choice) (end : ℕ) (a b : Image) → a.geometry ≡ g → IsImage a → IsImage b → c.other < g.conv
-    → 0 < g.zone_blocks → HasSizes (head_at g c.other c.head) → IsReady c end a
+    → 0 < g.zone_blocks → HasBlock (head_at g c.other c.head) → IsReady c end a
     → WrotePart c.other 0 (block_of (head_at g c.other c.head)) a b → HasPartOfSuper g c a b
 part_super g c end a b shape first second low some sizes ready w = record {
   only = only_more (λ z k. (z ≡ c.other) × (k ≡ 0)) (InSet g c.other 0 1) a b (at_front g c.other)

@@ -5,6 +5,7 @@ use Rattle.std.specs.Option.{is_some}
 use Rattle.zd_base.specs.Geometry.{Shape}
 use Rattle.zd_base.specs.Layout.{Fits, set_zones}
 use Rattle.zd_model.specs.Image.{Image, block_at}
+use Rattle.zd_model.specs.Super.{FitsVersion}
 use Rattle.zd_model.specs.Volume.{Chosen, chosen, good_super, greater_of, has_magic}
 use Rattle.zd_model.specs.declared.metadata.NotSuper.{NotSuper}
 use Rattle.zd_model.specs.declared.metadata.NotSuper.TheVariants.{Magic, Version, Crc, Tail}
@@ -55,8 +56,10 @@ pub record IsFound (g : Shape) (c : Choice) : Type 0 where
   pub other : c.other ≡ 0
   pub other_good : c.other_good ≡ false
 
--- both sets stand where its layout puts them, and there is room for them
+-- both sets stand where its layout puts them, there is room for them, and its head fits its version, so that the
+-- other set may get it
 pub record IsPlacedChoice (g : Shape) (c : Choice) : Type 0 where
+  pub head : FitsVersion c.head
   pub fits : Fits g c.head.layout
   pub places : StandsAt (set_zones g c.head.layout) c.set c.zone c.other
   pub zone : c.zone < g.conv

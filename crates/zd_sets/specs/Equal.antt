@@ -3,6 +3,7 @@ use Rattle.std.specs.Prelude.{◌≡◌, ℕ, ◌+◌, ◌*◌, ◌/◌, ◌%◌
 use Rattle.zd_base.specs.Geometry.{Shape}
 use Rattle.zd_model.specs.Image.{Image, SameZone, block_at, set_block}
 use Rattle.zd_model.specs.Bytes.{zero_sector}
+use Rattle.zd_model.specs.Super.{with_own}
 use Rattle.zd_model.specs.Volume.{good_super}
 use Rattle.zd_model.specs.declared.metadata.Super.{Super}
 use Rattle.zd_sets.specs.Blocks.{blocks_of}
@@ -28,7 +29,7 @@ pub record HasSetBlocks (g : Shape) (first from end : ℕ) (bytes : List ℕ) (o
 
 -- the head with the own number of a super block in this zone
 abbrev pub head_at : Shape → ℕ → Super → Super
-head_at g zone head = record head { own = zone * g.zone_blocks }
+head_at g zone head = with_own (zone * g.zone_blocks) head
 
 -- the super block of a zone is good, with the fields of this head, and no other block changed
 pub record HasSuper (g : Shape) (zone : ℕ) (head : Super) (old new : Image) : Type 0 where

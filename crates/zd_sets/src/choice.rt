@@ -5,6 +5,7 @@ ghost use Rattle.std.specs.Option.{is_some, option_map};
 ghost use Rattle.zd_base.specs.Layout.{Fits, set_zones};
 ghost use Rattle.zd_disk.specs.Told.{WhereTold};
 ghost use Rattle.zd_disk.specs.View.{Fails, HasFailed, OnlyReads};
+ghost use Rattle.zd_model.specs.Super.{FitsVersion};
 ghost use Rattle.zd_model.specs.Volume.{good_super, greater_of, scanned};
 ghost use Rattle.zd_sets.specs.Choice.{chosen_of, counting, ExplainsChoice, HasMagicAfter, IsChoice, IsFound, IsGreater, IsPlacedChoice, NoMagicAfter, StandsAt};
 
@@ -61,8 +62,12 @@ fn counting(geometry: &Geometry, n: u32, second: Option<Super>) -> Option<Super>
 }
 
 /// The set of the greater generation, the first one at a tie, where the first one is good.
+#[tactic(auto, using(crate::proofs::ChoiceLaws::counting_fits))]
 fn greater(geometry: &Geometry, first: Super, second: Option<Super>) -> Chosen
-    ensures { IsGreater geometry.now first second result }
+    requires first { FitsVersion first }
+    requires second { IfSome second FitsVersion }
+    ensures value { IsGreater geometry.now first second result }
+    ensures fits { FitsVersion result.head }
 {
     let n = first.layout.set_zones(geometry);
     match counting(geometry, n, second) {
@@ -91,6 +96,7 @@ fn choose_with<D: ZonedDisk>(
 ) -> Result<Chosen, SetFault>
     requires told { (D.view disk.old).told ≡ Some geometry.now }
     requires first { WhereTold (D.view disk.old).zones (λ i. good_super i 0 ≡ Some first) }
+    requires fits { FitsVersion first }
     ensures ok { IfOk result (λ c. WhereTold (D.view disk.old).zones (IsChoice c)) }
     ensures placed { IfOk result (IsPlacedChoice geometry.now) }
     ensures err { IfErr result (λ fault. WhereTold (D.view disk.old).zones (ExplainsChoice fault)) }
@@ -107,11 +113,13 @@ fn choose_with<D: ZonedDisk>(
 }
 
 /// The second set, where the scan finds it.
+#[tactic(auto, using(crate::proofs::ChoiceLaws::counting_fits))]
 fn scanned<D: ZonedDisk>(disk: &mut D, geometry: &Geometry) -> Result<Option<Chosen>, Failed>
     requires told { (D.view disk.old).told ≡ Some geometry.now }
     ensures value { IfOk result (λ found. WhereTold (D.view disk.old).zones (λ i.
         scanned i ≡ option_map chosen_of found)) }
     ensures found { IfOk result (λ found. IfSome found (IsFound geometry.now)) }
+    ensures fits { IfOk result (λ found. IfSome found (λ c. FitsVersion c.head)) }
     ensures reads { OnlyReads (D.view disk.old) (D.view disk.new) }
     ensures cause { Fails result (D.view disk.old) (D.view disk.new) }
 {
@@ -128,7 +136,7 @@ fn scanned<D: ZonedDisk>(disk: &mut D, geometry: &Geometry) -> Result<Option<Cho
     }))
 }
 
-/// Whether one of the `n` zones from `first` on, behind the first, begins with the magic bytes.
+/// Whether one of the `n` zones from `first` on, after the first, begins with the magic bytes.
 fn has_magic_after<D: ZonedDisk>(
     disk: &mut D,
     geometry: &Geometry,
@@ -178,7 +186,7 @@ fn choose_without<D: ZonedDisk>(disk: &mut D, geometry: &Geometry) -> Result<Cho
 ///
 /// Where the super block at zone 0 is good, its layout says where set 1 begins, and the greater
 /// generation is chosen, set 0 at a tie. Where it is bad, set 1 is looked for: the first conventional zone
-/// behind zone 0 that begins with the magic bytes decides.
+/// after zone 0 that begins with the magic bytes decides.
 ///
 /// `NoSuperBlock` comes exactly where no set is chosen, `Layout` where one is whose layout doesn't fit, or
 /// where the super block at zone 0 is bad and another zone of the set begins with the magic bytes.

@@ -6,7 +6,7 @@ ghost use Rattle.zd_disk.specs.Told.{WhereTold};
 ghost use Rattle.zd_disk.specs.Runs.{run_count};
 ghost use Rattle.zd_disk.specs.View.{Fails, Holds, IsDurable, Keeps, Made, MadeOf, MadeReads, Reaches, ReadsNone, ReadsOnce, Turns};
 ghost use Rattle.zd_model.specs.Image.{set_block};
-ghost use Rattle.zd_model.specs.Super.{HasSizes};
+ghost use Rattle.zd_model.specs.Super.{FitsVersion, HasBlock};
 ghost use Rattle.zd_sets.specs.Blocks.{AreBlocks};
 ghost use Rattle.zd_sets.specs.Calls.{clear_calls, differing_from, equal_calls};
 ghost use Rattle.zd_sets.specs.Choice.{IsChoice, IsPlacedChoice, chosen_of};
@@ -155,10 +155,11 @@ fn clear_bad<D: ZonedDisk>(
     disk.flush()
 }
 
-/// The head with the own number of a super block in this zone.
+/// The head with the own number of a super block in this zone, in the version that it has.
 fn head_at(geometry: &Geometry, zone: ZoneNo, head: Super) -> Super
+    requires { FitsVersion head }
     ensures value { result ≡ head_at geometry.now zone head }
-    ensures sizes { HasSizes result }
+    ensures sizes { HasBlock result }
 {
     let own = u64::from(zone.0) * u64::from(geometry.zone_blocks());
     Super { own, ..head }

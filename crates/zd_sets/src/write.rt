@@ -3,7 +3,7 @@
 ghost use Rattle.std.specs.Prelude.{◌≡◌, ◌+◌, ◌*◌, ◌/◌, ◌%◌, ◌<◌, Some, IsSomeAnd, OnOk, OnErr, length};
 ghost use Rattle.zd_disk.specs.Steps.{WriteLeaves, WriteStep};
 ghost use Rattle.zd_disk.specs.View.{Calls, Fails, Reaches, Turns};
-ghost use Rattle.zd_model.specs.Super.{block_of};
+ghost use Rattle.zd_model.specs.Super.{FitsVersion, block_of};
 ghost use Rattle.zd_sets.specs.Writes.{IsConventionalBlock, WroteBlock, WrotePart};
 
 use zd_base::{BLOCK, Failed, Geometry, ZoneNo};
@@ -61,12 +61,13 @@ pub fn write_block<D: ZonedDisk>(
     write_at(disk, zone, i % zone_blocks, bytes)
 }
 
-/// Writes the super block that stands for a head, with the own number that the head has, as the first
-/// block of a conventional zone, by one call of the disk.
+/// Writes the super block that stands for a head, in its version and with the own number that it has, as the
+/// first block of a conventional zone, by one call of the disk.
 ///
 /// `Failed` may have put any sectors of the block.
 pub fn write_super<D: ZonedDisk>(disk: &mut D, first: ZoneNo, head: &Super) -> Result<(), Failed>
-    requires { IsSomeAnd (D.view disk.old).told (IsConventionalBlock first 0) }
+    requires told { IsSomeAnd (D.view disk.old).told (IsConventionalBlock first 0) }
+    requires fits { FitsVersion head.now }
     ensures ok { OnOk result (Turns (WroteBlock first 0 (block_of head.now))
         (D.view disk.old) (D.view disk.new)) }
     ensures err { OnErr result (Turns (λ i. WriteStep i first 0 (block_of head.now) i)

@@ -7,7 +7,7 @@ mod encoding;
 mod offset;
 mod table;
 
-pub use block::decode;
+pub use block::{BARE_VERSION, NAMED_VERSION, decode};
 pub use crc::crc32_le;
 pub use encoding::encode;
 pub use zd_model::{Layout, NotSuper, Super};

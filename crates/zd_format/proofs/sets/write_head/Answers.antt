@@ -1,6 +1,6 @@
 use Rattle.std.proofs.Common.{◌≡◌, length, arith}
 use Rattle.std.proofs.lemmas.Result.{on_ok_weaker}
-use Rattle.zd_format.specs.Sets.{blocks_in}
+use Rattle.zd_disk.specs.Runs.{blocks_in}
 use Rattle.zd_format.proofs.FreshLaws.{fresh_super}
 use Rattle.zd_format.proofs.SetLaws.{told_more, one_within}
 use Rattle.zd_format.proofs.sets.write_head.Goals as goal

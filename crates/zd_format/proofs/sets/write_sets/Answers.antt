@@ -6,18 +6,19 @@ use Rattle.zd_disk.specs.Told.{WhereTold}
 use Rattle.zd_disk.proofs.ViewLaws.{holds_durable, stays_then}
 use Rattle.zd_model.specs.Image.{Image}
 use Rattle.zd_model.specs.declared.metadata.Super.{Super}
-use Rattle.zd_format.specs.Sets.{HasWritten, placed}
+use Rattle.zd_format.specs.Sets.{HasWritten}
+use Rattle.zd_model.specs.Super.{with_own}
 use Rattle.zd_format.proofs.SameSets.{same_sets, told_sets}
 use Rattle.zd_format.proofs.sets.write_sets.Goals as goal
 
 -- the second set, by the numbers that were worked out
 by_numbers : (g : Shape) (head : Super) (m a b : ℕ) (told : Option Image) → m ≡ set_zones g head.layout → a ≡ set_zones g head.layout → b ≡ g.zone_blocks
-    → WhereTold told (HasWritten g (placed (a * b) head) m head.layout.meta_blocks)
-    → WhereTold told (HasWritten g (placed (set_zones g head.layout * g.zone_blocks) head) (set_zones g head.layout) head.layout.meta_blocks)
+    → WhereTold told (HasWritten g (with_own (a * b) head) m head.layout.meta_blocks)
+    → WhereTold told (HasWritten g (with_own (set_zones g head.layout * g.zone_blocks) head) (set_zones g head.layout) head.layout.meta_blocks)
 by_numbers g head m a b told first second size h image e =
-    subst (λ (w : ℕ). HasWritten g (placed (set_zones g head.layout * w) head) (set_zones g head.layout) head.layout.meta_blocks image) size
-    (subst (λ (q : ℕ). HasWritten g (placed (q * b) head) (set_zones g head.layout) head.layout.meta_blocks image) second
-    (subst (λ (f : ℕ). HasWritten g (placed (a * b) head) f head.layout.meta_blocks image) first (h image e)))
+    subst (λ (w : ℕ). HasWritten g (with_own (set_zones g head.layout * w) head) (set_zones g head.layout) head.layout.meta_blocks image) size
+    (subst (λ (q : ℕ). HasWritten g (with_own (q * b) head) (set_zones g head.layout) head.layout.meta_blocks image) second
+    (subst (λ (f : ℕ). HasWritten g (with_own (a * b) head) f head.layout.meta_blocks image) first (h image e)))
 
 pub returns-clause-ok : goal.returns-clause-ok
 returns-clause-ok g c =

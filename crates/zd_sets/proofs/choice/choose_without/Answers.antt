@@ -1,6 +1,7 @@
 use Rattle.std.proofs.Common.{Bool, MatchBool, refl, sym, ap, ◌∙◌, subst}
 use Rattle.std.specs.Option.{option_map}
 use Rattle.std.proofs.lemmas.Bool.{false≢true}
+use Rattle.zd_model.specs.Super.{FitsVersion}
 use Rattle.zd_disk.proofs.ToldLaws.{IfSome-at}
 use Rattle.zd_disk.proofs.ViewLaws.{read_as}
 use Rattle.zd_sets.specs.Choice.{HasMagicAfter, IsFound, NoMagicAfter, chosen_of}
@@ -27,4 +28,5 @@ returns-clause-ok g c = λ image e.
     let n = c.set_zones-n.result in
     let free = subst (λ (found : Bool). MatchBool found (HasMagicAfter image zone n) (NoMagicAfter image zone n)) c.if-branch.false (c.in_ok-has_magic_after.ensures.value image (c.in_ok-chosen.ensures.reads.zones ∙ e)) in
     let found = IfSome-at c.in_ok-chosen.field-0 c.in-Some.chosen (IsFound c.args.geometry.now) c.in-Some.is c.in_ok-chosen.ensures.found in
-    told_found image c.args.geometry.now same (c.requires.first image e) c.in-Some.chosen (c.in_ok-chosen.ensures.value image e ∙ ap (option_map chosen_of) c.in-Some.is) n c.set_zones-n.ensures found (found_placed c.args.geometry.now c.in-Some.chosen found (c.if-not-fits.ensures.0 refl)) free
+    let version = IfSome-at c.in_ok-chosen.field-0 c.in-Some.chosen (λ chosen. FitsVersion chosen.head) c.in-Some.is c.in_ok-chosen.ensures.fits in
+    told_found image c.args.geometry.now same (c.requires.first image e) c.in-Some.chosen (c.in_ok-chosen.ensures.value image e ∙ ap (option_map chosen_of) c.in-Some.is) n c.set_zones-n.ensures found (found_placed c.args.geometry.now c.in-Some.chosen found version (c.if-not-fits.ensures.0 refl)) free
