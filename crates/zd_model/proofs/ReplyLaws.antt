@@ -12,7 +12,7 @@ use Rattle.zd_model.specs.Requests.Operation.{Reading, Writing, Discarding, Flus
 use Rattle.zd_model.specs.Plain.{Answer, answer_in_range, ends_past, put_by, reply_within, reply_to}
 use Rattle.zd_model.specs.Plain.{within_after}
 use Rattle.zd_model.specs.Plain.Answer.{Got, Done, Range, Fault}
-use Rattle.zd_model.specs.Report.{HasReply, IsReported, Tells}
+use Rattle.zd_model.specs.Report.{HasReply, IsReported, IsReplyOf}
 use Rattle.zd_model.specs.declared.requests.What.{What}
 use Rattle.zd_model.specs.declared.requests.What.TheVariants.{Read, Write, Discard, Flush}
 use Rattle.zd_model.specs.declared.requests.What.TheVariants.{ReadSectors, WriteSectors}
@@ -102,20 +102,20 @@ bytes_between array first n h within =
     (length-concat part sectors ∙ ap (λ (m : ℕ). 512 * m) size, concat-bytes part sectors)
 
 answer-told : (operation : Operation) (n : ℕ) (bytes : List ℕ) → AreBytesOf n bytes
-    → Tells operation n (answer_in_range operation bytes)
+    → IsReplyOf operation n (answer_in_range operation bytes)
 unfolding AreBytesOf
 answer-told Reading n bytes h = h
 answer-told Writing n bytes h = tt
 answer-told Discarding n bytes h = tt
 answer-told Flushing n bytes h = tt
 
-range-told : (operation : Operation) (n : ℕ) → Tells operation n Range
+range-told : (operation : Operation) (n : ℕ) → IsReplyOf operation n Range
 range-told Reading n = tt
 range-told Writing n = tt
 range-told Discarding n = tt
 range-told Flushing n = tt
 
-pub fault-told : (operation : Operation) (n : ℕ) → Tells operation n Fault
+pub fault-told : (operation : Operation) (n : ℕ) → IsReplyOf operation n Fault
 fault-told Reading n = tt
 fault-told Writing n = tt
 fault-told Discarding n = tt

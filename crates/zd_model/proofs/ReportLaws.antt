@@ -8,7 +8,7 @@ use Rattle.zd_model.specs.Requests.Operation.{Reading, Writing, Discarding, Flus
 use Rattle.zd_model.specs.Script.{letters_of, numbers_of}
 use Rattle.zd_model.specs.declared.texts.BadLine.{BadLine}
 use Rattle.zd_model.specs.declared.texts.BadLine.TheVariants as lines
-use Rattle.zd_model.specs.Report.{why_text, items_text, reply_text, entry_text, outcome_status, outcome_text, report, run_output, HasReply, IsReported, Tells}
+use Rattle.zd_model.specs.Report.{why_text, items_text, reply_text, entry_text, outcome_status, outcome_text, report, run_output, HasReply, IsReported, IsReplyOf}
 use Rattle.zd_model.specs.declared.requests.What.{What}
 use Rattle.zd_model.specs.Plain.{Answer}
 use Rattle.zd_model.specs.Plain.Answer.{Got, Done, Range, Fault}
@@ -77,7 +77,7 @@ same_numbers (m ∷ ms) (n ∷ ns) rest more l e =
     record { value = ap₂ (λ (x : ℕ) (xs : List ℕ). x ∷ xs) first.number others.value; after = others.after }
 
 -- bytes that were answered are whole sectors
-read_bytes : (operation : Operation) (n : ℕ) (bytes : List ℕ) → Tells operation n (Got bytes) → (length bytes ≡ 512 * n) × AllBytes bytes
+read_bytes : (operation : Operation) (n : ℕ) (bytes : List ℕ) → IsReplyOf operation n (Got bytes) → (length bytes ≡ 512 * n) × AllBytes bytes
 read_bytes Reading n bytes h = h
 read_bytes Writing n bytes h = absurd h
 read_bytes Discarding n bytes h = absurd h

@@ -56,15 +56,15 @@ AllAnswer array [] = Unit {0}
 AllAnswer array (e ∷ later) =
     Answers array e later × AllAnswer (entry_after array e.what e.reply) later
 
--- how many writing calls an operation makes at least, where it is past the device or in range
-abbrev pub calls_of : Operation → Bool → ℕ
-calls_of Writing false = 1
-calls_of operation past = 0
+-- how many writing calls an operation takes at least; none where it ends past the device
+abbrev pub calls_needed : Operation → Bool → ℕ
+calls_needed Writing false = 1
+calls_needed operation past = 0
 
 -- how much greater the number of writing calls is than that of the entry before: by one at least
 -- for a write in range
 abbrev pub waits : ℕ → What → ℕ
-waits sectors what = calls_of (operation_of what) (ends_past sectors what)
+waits sectors what = calls_needed (operation_of what) (ends_past sectors what)
 
 -- the numbers of writing calls never fall, and rise at a write in range
 abbrev pub InTime : ℕ → List HistoryEntry → Type 0

@@ -73,16 +73,16 @@ entry_text e = join_with_byte 32 (
     ∷ map numeral (numbers_of e.what)
     ++ reply_text e.what e.reply ∷ (codes "@" ++ numeral e.at) ∷ []) ++ codes "\n"
 
--- bytes are told of a read alone, and are so many sectors
-abbrev pub Tells : Operation → ℕ → Answer → Type 0
-Tells Reading sectors (replies.Got bytes) =
+-- a reply of an operation: bytes are that of a read alone, and are so many sectors
+abbrev pub IsReplyOf : Operation → ℕ → Answer → Type 0
+IsReplyOf Reading sectors (replies.Got bytes) =
     (length bytes ≡ 512 * sectors) × AllByRecursion (λ b. b < 256) bytes
-Tells operation sectors (replies.Got bytes) = ⊥
-Tells operation sectors reply = Unit {0}
+IsReplyOf operation sectors (replies.Got bytes) = ⊥
+IsReplyOf operation sectors reply = Unit {0}
 
--- bytes stand with a read, and are those of its sectors
+-- the reply is one of this request: bytes stand with a read, and are those of its sectors
 abbrev pub HasReply : What → Answer → Type 0
-HasReply what reply = Tells (operation_of what) (sector_count what) reply
+HasReply what reply = IsReplyOf (operation_of what) (sector_count what) reply
 
 -- an entry that a report can show
 abbrev pub IsReported : HistoryEntry → Type 0

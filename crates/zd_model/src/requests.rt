@@ -52,6 +52,26 @@ fn blocks_of(sector: u64, count: u32) -> (u64, u32)
     (sector / BLOCK_SECTORS, touched as u32)
 }
 
+impl What {
+    ghost use Rattle.zd_model.specs.Requests.{first_block, block_count};
+
+    /// The first block that is touched, in part or whole, and how many are. A flush touches none.
+    pub fn cover(self) -> (u64, u32)
+        ensures first { result.0 ≡ first_block self }
+        ensures count { result.1 ≡ block_count self }
+    {
+        match self {
+            What::Read { block, count }
+            | What::Write { block, count, .. }
+            | What::Discard { block, count } => (block, count),
+            What::Flush => (0, 0),
+            What::ReadSectors { sector, count } | What::WriteSectors { sector, count, .. } => {
+                blocks_of(sector, count)
+            }
+        }
+    }
+}
+
 impl Piece {
     ghost use Rattle.zd_model.specs.Requests.{first_block, block_count};
 
@@ -61,15 +81,7 @@ impl Piece {
         ensures first { result.0 ≡ first_block self.now.what }
         ensures count { result.1 ≡ block_count self.now.what }
     {
-        match self.what {
-            What::Read { block, count }
-            | What::Write { block, count, .. }
-            | What::Discard { block, count } => (block, count),
-            What::Flush => (0, 0),
-            What::ReadSectors { sector, count } | What::WriteSectors { sector, count, .. } => {
-                blocks_of(sector, count)
-            }
-        }
+        self.what.cover()
     }
 }
 
