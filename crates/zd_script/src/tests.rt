@@ -6,7 +6,7 @@ use std::test::Fail;
 use zd_ports::{MemSource, Source};
 
 const ONE_OF_EACH: &[u8] =
-    b"r 0 18446744073709551615 1\nw 63 5 32764 4294967295\nd 10 0 4194304\nf 7\nrs 1 5 4\nws 2 15 2 8\n";
+    b"r 0 18446744073709551615 1\nw 63 5 32763 4294967295\nd 10 0 4194304\nf 7\nrs 1 5 4\nws 2 15 2 8\n";
 
 /// Scripts at the edges of the rules, and how many requests they have.
 const ACCEPTED: &[(&[u8], usize)] = &[
@@ -156,7 +156,11 @@ const REFUSED: &[(&[u8], u32, BadLine)] = &[
     (b"rs 0 0 262145\n", 1, BadLine::TooLong),
     (b"rs 0 7 262138\n", 1, BadLine::TooLong),
     (b"ws 0 7 262138 1\n", 1, BadLine::TooLong),
-    (b"rs 0 18446744073709551615 4294967295\n", 1, BadLine::TooLong),
+    (
+        b"rs 0 18446744073709551615 4294967295\n",
+        1,
+        BadLine::TooLong,
+    ),
     (b"ws 0 0 4294967295 1\n", 1, BadLine::TooLong),
     (b"r 0 0 32767\nrs 0 7 2\n", 2, BadLine::TooLong),
     (b"r 0 0 32768\nws 0 7 1 1\n", 2, BadLine::TooLong),
@@ -218,7 +222,7 @@ fn lines_are_their_plan(rt: HostRuntime) -> Result<(), Fail> {
             caller: 63,
             what: What::Write {
                 block: 5,
-                count: 32_764,
+                count: 32_763,
                 seed: 4_294_967_295,
             },
         },
