@@ -41,7 +41,7 @@ abbrev pub sectors_history : List HistoryEntry
 sectors_history =
     entry 1 0 (WriteSectors 3 2 5) Done 1
     ∷ entry 2 0 (ReadSectors 0 8)
-        (Got (replicate 1536 0 ++ (pattern 5 3 ++ pattern 5 4) ++ replicate 1536 0)) 1
+    (Got (replicate 1536 0 ++ (pattern 5 3 ++ pattern 5 4) ++ replicate 1536 0)) 1
     ∷ []
 
 -- a read that failed between others, a write past the device at the same number, a write over

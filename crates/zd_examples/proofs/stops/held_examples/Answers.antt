@@ -33,3 +33,6 @@ returns-clause-failed_write c = inr (inl (refl, ((lit≤ tt, inr refl), (lit≤ 
 
 pub returns-clause-failed_flush : goal.returns-clause-failed_flush
 returns-clause-failed_flush c = inl refl
+
+pub returns-clause-sectors : goal.returns-clause-sectors
+returns-clause-sectors c = inr (inl (refl, ((lit≤ tt, inl refl), (lit≤ tt, lit< tt), refl)))

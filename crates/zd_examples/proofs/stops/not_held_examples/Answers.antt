@@ -67,3 +67,9 @@ returns-clause-past c h = elim h [
     ]
   ]
 ]
+
+pub returns-clause-beside : goal.returns-clause-beside
+returns-clause-beside c h = elim h [
+  | inl flushed ↦ one_is_zero 5 flushed
+  | inr later ↦ elim later [ inl write ↦ (let far : 5 < 5 = write.1.1.1 in omega arith) | inr none ↦ none ]
+]
