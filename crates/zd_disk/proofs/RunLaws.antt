@@ -43,7 +43,7 @@ count_then p a m b low high =
     ∙ ap (λ (k : ℕ). count_by p (range_with_len a (m - a)) + count_by p (range_with_len k (b - m))) at
 
 -- none of them does
-count_none : (p : ℕ → Bool) (a n : ℕ) → ((k : ℕ) → a ≤ k → k < a + n → p k ≡ false) → count_by p (range_with_len a n) ≡ 0
+pub count_none : (p : ℕ → Bool) (a n : ℕ) → ((k : ℕ) → a ≤ k → k < a + n → p k ≡ false) → count_by p (range_with_len a n) ≡ 0
 count_none p a zero none = refl
 count_none p a (suc n) none =
     sum_by-append (λ k. cond (p k) 1 0) (a ∷ []) (range_with_len (a + 1) n)
