@@ -48,6 +48,6 @@ pub record IsShape (g : Shape) : Type 0 where
   pub count : IsZoneCount g.conv g.seq
 
 -- when numbers are refused: the size decides first
-abbrev pub Refuses : BadGeometry → ℕ → ℕ → ℕ → Type 0
-Refuses Size zone_blocks conv seq = IsZoneSize zone_blocks → ⊥
-Refuses Count zone_blocks conv seq = IsZoneSize zone_blocks × (IsZoneCount conv seq → ⊥)
+abbrev pub RefusesGeometry : BadGeometry → ℕ → ℕ → ℕ → Type 0
+RefusesGeometry Size zone_blocks conv seq = IsZoneSize zone_blocks → ⊥
+RefusesGeometry Count zone_blocks conv seq = IsZoneSize zone_blocks × (IsZoneCount conv seq → ⊥)

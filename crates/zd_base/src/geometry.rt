@@ -1,7 +1,7 @@
 //! The zones of a disk.
 
 ghost use Rattle.std.specs.Prelude.{◌≡◌, ◌<◌, ◌↔◌, IsTrue, IfOk, IfErr};
-ghost use Rattle.zd_base.specs.Geometry.{IsShape, IsZoneSize, Refuses, zone_count, per, kind_of};
+ghost use Rattle.zd_base.specs.Geometry.{IsShape, IsZoneSize, RefusesGeometry, zone_count, per, kind_of};
 
 use crate::ZoneNo;
 use std::marker::Model;
@@ -63,7 +63,7 @@ impl Geometry {
     pub fn new(zone_blocks: u32, conv: u32, seq: u32) -> Result<Geometry, BadGeometry>
         ensures ok { IfOk result (λ g.
             (g ≡ record { zone_blocks = zone_blocks; conv = conv; seq = seq }) × IsShape g) }
-        ensures err { IfErr result (λ e. Refuses e zone_blocks conv seq) }
+        ensures err { IfErr result (λ e. RefusesGeometry e zone_blocks conv seq) }
     {
         if !is_zone_size(zone_blocks) {
             return Err(BadGeometry::Size);

@@ -18,6 +18,8 @@ pub enum Prefer {
 pub enum StepKind {
     /// A run of a read was read, or found to be zeros.
     ReadRun,
+    /// A block that a write touches in part was read whole.
+    MergeRead,
     /// A piece was written.
     Write,
     /// A piece was discarded.
@@ -36,6 +38,8 @@ pub enum StepKind {
     Commit,
     /// A piece past the device was answered.
     Enter,
+    /// A block of metadata that a step needs was read into a frame.
+    Load,
 }
 
 /// What a step answers.

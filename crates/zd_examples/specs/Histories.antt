@@ -3,6 +3,8 @@ use Rattle.std.specs.Prelude.{List, [], ◌∷◌, ◌++◌, replicate}
 use Rattle.zd_model.specs.History.{HistoryEntry}
 use Rattle.zd_model.specs.Plain.Answer.{Got, Done, Range, Fault}
 use Rattle.zd_model.specs.declared.requests.What.TheVariants.{Read, Write, Discard, Flush}
+use Rattle.zd_model.specs.declared.requests.What.TheVariants.{ReadSectors, WriteSectors}
+use Rattle.zd_model.specs.Plain.{pattern}
 use Rattle.zd_examples.specs.Requests.{entry, entry_by, patterned}
 
 -- a read of nothing
@@ -32,6 +34,14 @@ discard_history =
     entry 1 0 (Write 0 4 1) Done 1
     ∷ entry 2 0 (Discard 1 2) Done 1
     ∷ entry 3 0 (Read 0 4) (Got (patterned 1 0 1 ++ replicate 8192 0 ++ patterned 1 3 1)) 1
+    ∷ []
+
+-- a write and a read that begin and end within blocks
+abbrev pub sectors_history : List HistoryEntry
+sectors_history =
+    entry 1 0 (WriteSectors 3 2 5) Done 1
+    ∷ entry 2 0 (ReadSectors 0 8)
+    (Got (replicate 1536 0 ++ (pattern 5 3 ++ pattern 5 4) ++ replicate 1536 0)) 1
     ∷ []
 
 -- a read that failed between others, a write past the device at the same number, a write over

@@ -1,10 +1,10 @@
 -- Two callers' requests on one chunk, and the orders of their entries.
 use Rattle.std.specs.Prelude.{List, [], ◌∷◌}
 use Rattle.zd_model.specs.History.{HistoryEntry}
-use Rattle.zd_model.specs.Plain.Answer.{Done}
+use Rattle.zd_model.specs.Plain.Answer.{Done, Range}
 use Rattle.zd_model.specs.declared.requests.Request.{Request}
-use Rattle.zd_model.specs.declared.requests.What.TheVariants.{Write, Flush}
-use Rattle.zd_examples.specs.Requests.{entry_by, request_by}
+use Rattle.zd_model.specs.declared.requests.What.TheVariants.{Read, Write, Flush}
+use Rattle.zd_examples.specs.Requests.{entry, entry_by, request, request_by}
 
 -- caller 1 writes and flushes, caller 2 writes over two chunks
 abbrev pub shared_plan : List Request
@@ -32,6 +32,13 @@ other_first = second_write ∷ first_write ∷ last_flush_of_first ∷ third_wri
 
 abbrev pub part_of_each : List HistoryEntry
 part_of_each = second_write ∷ first_write ∷ []
+
+-- right: a request that ends one block past the device
+abbrev pub past_plan : List Request
+past_plan = request (Read 127 2) ∷ []
+
+abbrev pub past_order : List HistoryEntry
+past_order = entry 1 0 (Read 127 2) Range 4 ∷ []
 
 -- wrong: a caller's own order, a piece that is missing, one that is entered twice
 abbrev pub own_order : List HistoryEntry

@@ -2,7 +2,7 @@
 use Rattle.std.specs.Prelude.{List, [], ◌∷◌}
 use Rattle.zd_model.specs.History.{HistoryEntry}
 use Rattle.zd_model.specs.Plain.Answer.{Done, Range, Fault}
-use Rattle.zd_model.specs.declared.requests.What.TheVariants.{Write, Discard, Flush}
+use Rattle.zd_model.specs.declared.requests.What.TheVariants.{Write, Discard, Flush, WriteSectors}
 use Rattle.zd_examples.specs.Requests.{entry}
 
 -- a write that was flushed, and a later write of the same block
@@ -37,6 +37,10 @@ failed_history = entry 1 0 (Write 0 1 1) Done 1 ∷ entry 2 0 Flush Fault 3 ∷ 
 
 abbrev pub failed_write : List HistoryEntry
 failed_write = entry 1 0 (Write 0 1 1) Fault 2 ∷ []
+
+-- a write of two sectors
+abbrev pub written_sectors : List HistoryEntry
+written_sectors = entry 1 0 (WriteSectors 3 2 1) Done 1 ∷ []
 
 -- a request past the device, with whatever reply
 abbrev pub past_history : List HistoryEntry

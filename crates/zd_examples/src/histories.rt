@@ -9,10 +9,12 @@ ghost use Rattle.zd_examples.specs.Histories.{faulty_flushes, faulty_past, fault
 ghost use Rattle.zd_examples.specs.Histories.{faulty_write};
 ghost use Rattle.zd_examples.specs.Histories.{flush_after_fault, last_block_history, lost_write};
 ghost use Rattle.zd_examples.specs.Histories.{old_bytes, range_inside, read_after_fault, standing};
-ghost use Rattle.zd_examples.specs.Histories.{standing_fault, two_chunks_history};
+ghost use Rattle.zd_examples.specs.Histories.{sectors_history, standing_fault};
+ghost use Rattle.zd_examples.specs.Histories.{two_chunks_history};
 ghost use Rattle.zd_examples.specs.Orders.{as_planned, entered_twice, first_missing, one_more};
 ghost use Rattle.zd_examples.specs.Orders.{other_caller, other_first, other_piece, other_seed};
-ghost use Rattle.zd_examples.specs.Orders.{own_order, part_of_each, shared_plan};
+ghost use Rattle.zd_examples.specs.Orders.{own_order, part_of_each, past_order, past_plan};
+ghost use Rattle.zd_examples.specs.Orders.{shared_plan};
 ghost use Rattle.zd_examples.specs.Requests.{two_blocks, two_chunks_plan, patterns, zero_volume};
 
 /// Histories of 128 blocks of zeros.
@@ -21,6 +23,7 @@ pub fn legal_examples()
     ensures last { IsLegal zero_volume last_block_history }
     ensures two { IsLegal zero_volume two_chunks_history }
     ensures discard { IsLegal zero_volume discard_history }
+    ensures sectors { IsLegal zero_volume sectors_history }
 {}
 
 /// What may fail: reads, a write at the end, flushes at the end. The first write may have any
@@ -63,6 +66,7 @@ pub fn order_examples()
     ensures planned { IsOrdered 16 128 shared_plan as_planned }
     ensures other { IsOrdered 16 128 shared_plan other_first }
     ensures part { IsOrdered 16 128 shared_plan part_of_each }
+    ensures past { IsOrdered 16 128 past_plan past_order }
 {}
 
 /// Orders that aren't kept.

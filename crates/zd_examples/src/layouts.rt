@@ -2,7 +2,7 @@
 
 ghost use Rattle.std.specs.Prelude.{◌≡◌, ◌-◌, ◌^◌};
 ghost use Rattle.zd_base.specs.Faults.{Rose};
-ghost use Rattle.zd_base.specs.Geometry.{IsShape, IsZoneCount, IsZoneSize, Refuses, kind_of, per};
+ghost use Rattle.zd_base.specs.Geometry.{IsShape, IsZoneCount, IsZoneSize, RefusesGeometry, kind_of, per};
 ghost use Rattle.zd_base.specs.Geometry.{zone_sectors};
 ghost use Rattle.zd_base.specs.Layout.{Fits, device_blocks, first_data_zone, set_zones};
 ghost use Rattle.zd_base.specs.Layout.{used_blocks};
@@ -71,11 +71,11 @@ pub fn misfit_examples()
 
 /// Why numbers are no disk's: the size comes before the counts.
 pub fn refusal_examples()
-    ensures size { Refuses BadGeometry.Size 24 6 6 }
-    ensures size_first { Refuses BadGeometry.Size 4 0 0 }
-    ensures count { Refuses BadGeometry.Count 16 0 6 }
-    ensures both { Refuses BadGeometry.Count 4 0 0 → ⊥ }
-    ensures right { Refuses BadGeometry.Count 16 6 6 → ⊥ }
+    ensures size { RefusesGeometry BadGeometry.Size 24 6 6 }
+    ensures size_first { RefusesGeometry BadGeometry.Size 4 0 0 }
+    ensures count { RefusesGeometry BadGeometry.Count 16 0 6 }
+    ensures both { RefusesGeometry BadGeometry.Count 4 0 0 → ⊥ }
+    ensures right { RefusesGeometry BadGeometry.Count 16 6 6 → ⊥ }
 {}
 
 /// A count of faults that rose, by one or more, or that stands at its end.

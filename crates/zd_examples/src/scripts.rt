@@ -1,12 +1,13 @@
 //! Texts of numbers, of plans, and what is refused.
 
 ghost use Rattle.std.specs.Prelude.{◌≡◌, ◌+◌, ◌-◌, ◌^◌, ◌++◌, List, [], ◌∷◌, ℕ, codes, length};
-ghost use Rattle.zd_model.specs.Script.{HasNumbers, IsScript, IsWithinLimits, Refuses};
+ghost use Rattle.zd_model.specs.Script.{HasNumbers, IsScript, IsWithinLimits, RefusesScript};
 ghost use Rattle.zd_model.specs.Text.{hex, numeral};
 ghost use Rattle.zd_model.specs.declared.requests.Request.{Request};
 ghost use Rattle.zd_model.specs.declared.texts.BadLine.{BadLine as WhyBad};
 ghost use Rattle.zd_examples.specs.Requests.{two_chunks_plan};
-ghost use Rattle.zd_examples.specs.Scripts.{all_kinds, greatest, most_discarded};
+ghost use Rattle.zd_examples.specs.Scripts.{all_kinds, greatest, most_discarded, most_in_sectors};
+ghost use Rattle.zd_examples.specs.Scripts.{sectors_plan};
 ghost use Rattle.zd_examples.specs.Scripts.{too_much_discarded};
 ghost use Rattle.zd_examples.specs.Scripts.{too_much_moved};
 ghost use Rattle.zd_examples.specs.Scripts.{HasFewBlocks};
@@ -33,6 +34,7 @@ pub fn script_examples()
     ensures greatest { IsScript
         (codes "w 0 18446744073709551615 1 4294967295\nr 0 0 32767\n") greatest }
     ensures discards { IsScript (codes "d 0 0 4194303\nr 0 0 32768\nd 0 9 1\n") most_discarded }
+    ensures sectors { IsScript (codes "ws 0 3 2 5\nrs 9 0 8\n") sectors_plan }
 {}
 
 /// The bounds of numbers.
@@ -43,6 +45,9 @@ pub fn bound_examples()
     ensures no_block { HasNumbers (What.Write 0 0 1) → ⊥ }
     ensures count { HasNumbers (What.Discard 0 (2 ^ 32)) → ⊥ }
     ensures seed { HasNumbers (What.Write 0 1 (2 ^ 32)) → ⊥ }
+    ensures last_sector { HasNumbers (What.ReadSectors (2 ^ 64 - 1) 1) }
+    ensures sector { HasNumbers (What.ReadSectors (2 ^ 64) 1) → ⊥ }
+    ensures no_sector { HasNumbers (What.WriteSectors 0 0 1) → ⊥ }
 {}
 
 /// The limits of scripts.
@@ -51,34 +56,40 @@ pub fn limit_examples()
     ensures discards_more { IsWithinLimits too_much_discarded → ⊥ }
     ensures moves { IsWithinLimits greatest }
     ensures moves_more { IsWithinLimits too_much_moved → ⊥ }
+    ensures sectors { IsWithinLimits (most_in_sectors 262_137) }
+    ensures sectors_more { IsWithinLimits (most_in_sectors 262_138) → ⊥ }
     ensures requests_most { (plan : List Request) → length plan ≡ 1_000_000 →
         HasFewBlocks plan → IsWithinLimits plan }
     ensures requests_more { (plan : List Request) → length plan ≡ 1_000_001 →
         IsWithinLimits plan → ⊥ }
     ensures bytes_more { (bytes : List ℕ) → length bytes ≡ 67_108_865 →
-        Refuses bytes 0 BadLine.TooLong }
+        RefusesScript bytes 0 BadLine.TooLong }
     ensures bytes_most { (bytes : List ℕ) (why : WhyBad) → length bytes ≡ 67_108_864 →
-        Refuses bytes 0 why → ⊥ }
+        RefusesScript bytes 0 why → ⊥ }
 {}
 
 /// What is refused, by which rule: form, number, caller and limits, in this order.
 pub fn refusal_examples()
-    ensures form { Refuses (codes "r 0 0\n") 1 BadLine.Form }
-    ensures number { Refuses (codes "r 64 0 0\n") 1 BadLine.Number }
-    ensures caller { Refuses (codes "r 64 0 1\n") 1 BadLine.Caller }
-    ensures long { Refuses (codes "r 0 0 32769\n") 1 BadLine.TooLong }
-    ensures leading { Refuses (codes "f 0\nr 0 00 1\n") 2 BadLine.Form }
-    ensures unended { Refuses (codes "r 0 0 1") 1 BadLine.Form }
-    ensures caller_first { Refuses (codes "r 64 0 32769\n") 1 BadLine.Caller }
-    ensures far { Refuses (codes "d 0 18446744073709551616 1\n") 1 BadLine.Number }
-    ensures discards { Refuses (codes "d 0 0 4194304\nd 1 0 1\n") 2 BadLine.TooLong }
+    ensures form { RefusesScript (codes "r 0 0\n") 1 BadLine.Form }
+    ensures number { RefusesScript (codes "r 64 0 0\n") 1 BadLine.Number }
+    ensures caller { RefusesScript (codes "r 64 0 1\n") 1 BadLine.Caller }
+    ensures long { RefusesScript (codes "r 0 0 32769\n") 1 BadLine.TooLong }
+    ensures leading { RefusesScript (codes "f 0\nr 0 00 1\n") 2 BadLine.Form }
+    ensures unended { RefusesScript (codes "r 0 0 1") 1 BadLine.Form }
+    ensures caller_first { RefusesScript (codes "r 64 0 32769\n") 1 BadLine.Caller }
+    ensures far { RefusesScript (codes "d 0 18446744073709551616 1\n") 1 BadLine.Number }
+    ensures discards { RefusesScript (codes "d 0 0 4194304\nd 1 0 1\n") 2 BadLine.TooLong }
+    ensures sectors { RefusesScript (codes "rs 0 7 262138\n") 1 BadLine.TooLong }
+    ensures sectors_caller_first { RefusesScript (codes "rs 64 7 262138\n") 1 BadLine.Caller }
+    ensures no_sector { RefusesScript (codes "ws 64 0 0 1\n") 1 BadLine.Number }
 {}
 
-/// Lines that have none of the four forms.
+/// Lines that have none of the six forms.
 pub fn form_examples()
-    ensures blank { Refuses (codes "f 0\n\n") 2 BadLine.Form }
-    ensures letter { Refuses (codes "x 0 0 1\n") 1 BadLine.Form }
-    ensures spaces { Refuses (codes "f  0\n") 1 BadLine.Form }
-    ensures indented { Refuses (codes " f 0\n") 1 BadLine.Form }
-    ensures sign { Refuses (codes "f -1\n") 1 BadLine.Form }
+    ensures blank { RefusesScript (codes "f 0\n\n") 2 BadLine.Form }
+    ensures letter { RefusesScript (codes "x 0 0 1\n") 1 BadLine.Form }
+    ensures spaces { RefusesScript (codes "f  0\n") 1 BadLine.Form }
+    ensures indented { RefusesScript (codes " f 0\n") 1 BadLine.Form }
+    ensures sign { RefusesScript (codes "f -1\n") 1 BadLine.Form }
+    ensures letters { RefusesScript (codes "fs 0\n") 1 BadLine.Form }
 {}

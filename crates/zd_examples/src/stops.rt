@@ -7,7 +7,7 @@ ghost use Rattle.zd_model.specs.Stops.{MayHold, last_flush};
 ghost use Rattle.zd_examples.specs.Requests.{two_blocks};
 ghost use Rattle.zd_examples.specs.Stops.{discarded_history, failed_discard, failed_history};
 ghost use Rattle.zd_examples.specs.Stops.{failed_write, past_history, rewritten_history, the_flush};
-ghost use Rattle.zd_examples.specs.Stops.{twice_flushed};
+ghost use Rattle.zd_examples.specs.Stops.{twice_flushed, written_sectors};
 
 /// The last flush that was acknowledged when so many calls had returned.
 pub fn flush_examples()
@@ -29,6 +29,7 @@ pub fn held_examples()
     ensures discarded { MayHold two_blocks discarded_history 4 0 zero_sector }
     ensures other_block { MayHold two_blocks discarded_history 3 8 (pattern 2 8) }
     ensures failed_write { MayHold two_blocks failed_write 1 0 (pattern 1 0) }
+    ensures sectors { MayHold two_blocks written_sectors 0 4 (pattern 1 4) }
     ensures failed_flush { MayHold two_blocks failed_history 9 0 zero_sector }
 {}
 
@@ -39,6 +40,7 @@ pub fn not_held_examples()
     ensures flushed_over { MayHold two_blocks twice_flushed 6 0 (pattern 1 0) → ⊥ }
     ensures behind { MayHold two_blocks rewritten_history 0 8 (pattern 1 8) → ⊥ }
     ensures other_place { MayHold two_blocks rewritten_history 0 1 (pattern 1 0) → ⊥ }
+    ensures beside { MayHold two_blocks written_sectors 1 5 (pattern 1 5) → ⊥ }
     ensures past { MayHold two_blocks past_history 5 0 (pattern 1 0) → ⊥ }
 {}
 

@@ -1,15 +1,16 @@
 -- Arrays keep their length, and are read at an index after a write.
-use Rattle.std.proofs.Common.{◌≡◌, ℕ, ◌+◌, ◌-◌, ◌*◌, ◌<◌, ◌≤◌, Bool, true, false, cond, not, ◌||◌, List, [], ◌∷◌, ◌++◌, length, map, take, drop, replicate, get_or, refl, ap, ap₂, ◌∙◌, arith, leb}
+use Rattle.std.proofs.Common.{◌≡◌, ℕ, ◌+◌, ◌-◌, ◌<◌, ◌≤◌, Bool, true, false, cond, not, ◌||◌, List, [], ◌∷◌, ◌++◌, length, map, take, drop, get_or, Option, Some, None, refl, ap, ap₂, ◌∙◌, arith, leb}
 use borrow.Author.Tests.{leb-true}
 use Rattle.std.specs.List.{range_with_len, list_any}
-use Rattle.std.proofs.lemmas.List.{length-append, length-drop, length-replicate, length-take-le, get_or_append_left, get_or-append_right, get_or-take, get_or-drop}
+use Rattle.std.proofs.lemmas.List.{length-append, length-drop, length-take-le, get_or_append_left, get_or-append_right, get_or-take, get_or-drop}
 use Rattle.std.proofs.lemmas.List.FromFn.{length-map-range_with_len}
-use Rattle.zd_model.specs.Bytes.{overwrite, zero_sector}
-use Rattle.zd_model.specs.Plain.{ends_past, array_after, within_after, pattern}
+use Rattle.std.specs.Option.{option_map_or}
+use Rattle.zd_model.specs.Bytes.{overwrite}
+use Rattle.zd_model.specs.Requests.{first_sector, sector_count}
+use Rattle.zd_model.specs.Plain.{ends_past, array_after, put_by, within_after}
 use Rattle.zd_model.specs.History.{entry_after, last_array}
 use Rattle.zd_model.specs.Stops.{is_acknowledged, flushed, unflushed}
 use Rattle.zd_model.specs.declared.requests.What.{What}
-use Rattle.zd_model.specs.declared.requests.What.TheVariants.{Read, Write, Discard, Flush}
 use Rattle.zd_model.specs.Plain.{Answer}
 use Rattle.zd_model.specs.Plain.Answer.{Got, Done, Range, Fault}
 use Rattle.zd_model.specs.History.{HistoryEntry}
@@ -37,7 +38,6 @@ module _ {X : Type 0} (xs : List X) (at : ℕ) (new : List X) (fits : at + lengt
       get_or-append_right (take at xs ++ new) (drop (at + length new) xs) (at + length new) i d (length-append (take at xs) new ∙ ap (λ n. n + length new) front) low
       ∙ get_or-drop (at + length new) xs (i - (at + length new)) d ∙ ap (λ k. get_or xs k d) place
 
--- a request that doesn't end past the array stands in it
 not_past : (last sectors : ℕ) → not (leb last sectors) ≡ false → last ≤ sectors
 not_past last sectors h = leb-true last sectors (double (leb last sectors) h)
   where
@@ -45,15 +45,22 @@ not_past last sectors h = leb-true last sectors (double (leb last sectors) h)
     double true e = refl
     double false e = cc
 
-length-within_after : (array : List (List ℕ)) (what : What) → ends_past (length array) what ≡ false → length (within_after array what) ≡ length array
-length-within_after array (Read block count) h = refl
-length-within_after array (Write block count seed) h =
-    let within = not_past (8 * (block + count)) (length array) h in
-    length-overwrite array (8 * block) (map (pattern seed) (range_with_len (8 * block) (8 * count))) (omega (arith, length-map-range_with_len (pattern seed) (8 * block) (8 * count)))
-length-within_after array (Discard block count) h =
-    let within = not_past (8 * (block + count)) (length array) h in
-    length-overwrite array (8 * block) (replicate (8 * count) zero_sector) (omega (arith, length-replicate (8 * count) zero_sector))
-length-within_after array Flush h = refl
+-- a request that doesn't end past the array stands in it
+pub ends_within : (sectors : ℕ) (what : What) → ends_past sectors what ≡ false
+    → first_sector what + sector_count what ≤ sectors
+ends_within sectors what h = not_past (first_sector what + sector_count what) sectors h
+
+length-put : (array : List (List ℕ)) (first n : ℕ) (put : Option (ℕ → List ℕ)) → first + n ≤ length array
+    → length (option_map_or (λ p. overwrite array first (map p (range_with_len first n))) put array) ≡ length array
+length-put array first n None h = refl
+length-put array first n (Some p) h =
+    length-overwrite array first (map p (range_with_len first n))
+    (omega (arith, length-map-range_with_len p first n))
+
+length-within_after : (array : List (List ℕ)) (what : What) → ends_past (length array) what ≡ false
+    → length (within_after array what) ≡ length array
+length-within_after array what h =
+    length-put array (first_sector what) (sector_count what) (put_by what) (ends_within (length array) what h)
 
 pub length-array_after : (array : List (List ℕ)) (what : What) → length (array_after array what) ≡ length array
 length-array_after array what = by_test (ends_past (length array) what) refl

@@ -9,7 +9,7 @@ use borrow.Author.Tests.{eq-eqb, eqb-true, le-leb, leb-true, ltb-true, ltb-false
 use Rattle.std.proofs.lemmas.List.Folds.{list_any-append, find-append}
 use Rattle.zd_base.specs.Geometry.{Shape, zone_count}
 use Rattle.zd_base.specs.declared.layout.Layout.{Layout}
-use Rattle.zd_model.specs.Tables.{Tables, Names, MapFollowsRules, BitsFollowRules}
+use Rattle.zd_model.specs.Tables.{Tables, NamesZone, MapFollowsRules, BitsFollowRules}
 use Rattle.zd_model.specs.Tables.{entry_of, is_valid, zones_of}
 use Rattle.zd_model.specs.Faults.{has, is_twice, is_right_bit, bad_bit}
 use Rattle.zd_model.specs.declared.metadata.MapEntry.{MapEntry}
@@ -75,7 +75,7 @@ names_of None (Some b) z h = inr (ap Some (has_one b z h))
 names_of (Some y) None z h = inl (ap Some (has_one y z h))
 names_of (Some y) (Some b) z h = elim (split_or (eqb y z) (eqb b z || false) h) [ inl e ↦ inl (ap Some (eqb-true y z e)) | inr e ↦ inr (ap Some (has_one b z e)) ]
 
-named_by : (entries : List MapEntry) (z : ℕ) → has (flat_map zones_of entries) z ≡ true → (c : ℕ) × Names (get_or entries c unmapped) z
+named_by : (entries : List MapEntry) (z : ℕ) → has (flat_map zones_of entries) z ≡ true → (c : ℕ) × NamesZone (get_or entries c unmapped) z
 named_by [] z h = cc
 named_by (e ∷ entries) z h =
     elim (split_or (has (zones_of e) z) (has (flat_map zones_of entries) z) (sym (list_any-append (λ y. eqb y z) (zones_of e) (flat_map zones_of entries)) ∙ h)) [
@@ -83,7 +83,7 @@ named_by (e ∷ entries) z h =
       | inr later ↦ (let there = named_by entries z later in (suc there.0, there.1))
     ]
 
-has_by : (entries : List MapEntry) (c z : ℕ) → Names (get_or entries c unmapped) z → has (flat_map zones_of entries) z ≡ true
+has_by : (entries : List MapEntry) (c z : ℕ) → NamesZone (get_or entries c unmapped) z → has (flat_map zones_of entries) z ≡ true
 has_by [] c z (inl e) = absurd (none_some z e)
 has_by [] c z (inr e) = absurd (none_some z e)
 has_by (e ∷ entries) zero z h = list_any-append (λ y. eqb y z) (zones_of e) (flat_map zones_of entries) ∙ ap (λ (b : Bool). b || has (flat_map zones_of entries) z) (has_named e.zone e.buffer z h)

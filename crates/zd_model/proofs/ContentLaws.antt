@@ -13,7 +13,7 @@ use Rattle.zd_base.specs.Geometry.{Shape, IsShape, zone_count, per}
 use Rattle.zd_base.specs.Layout.{Fits, set_zones, rounded_up}
 use Rattle.zd_model.specs.Bytes.{IsSector, zero_sector}
 use Rattle.zd_model.specs.Image.{Image, IsImage, Same, set_block, block_at}
-use Rattle.zd_model.specs.Tables.{Tables, MapFollowsRules, BitsFollowRules, Names, entry_of}
+use Rattle.zd_model.specs.Tables.{Tables, MapFollowsRules, BitsFollowRules, NamesZone, entry_of}
 use Rattle.zd_model.specs.Tables.{is_valid, where_valid, sector_of, served, entry_at}
 use Rattle.zd_model.specs.Super.{decoded}
 use Rattle.zd_model.specs.declared.metadata.Super.{Super}
@@ -49,7 +49,7 @@ module _ (image : Image) (c : Chosen) (is_image : IsImage image) (well : IsWellF
       let x : ℕ = i / 8 % b in
       let within : x < b = omega arith in
       let entry : MapEntry = entry_of t (i / 8 / b) in
-      let place = λ (z : ℕ) (named : Names entry z) (valid : IsTrue (is_valid t z x)). (let low = (well.map.data_zones (i / 8 / b) z named).1 in held z (8 * x + i % 8) low (held_sector z x (i % 8) low within (omega arith) valid)) in
+      let place = λ (z : ℕ) (named : NamesZone entry z) (valid : IsTrue (is_valid t z x)). (let low = (well.map.data_zones (i / 8 / b) z named).1 in held z (8 * x + i % 8) low (held_sector z x (i % 8) low within (omega arith) valid)) in
       where_it_is P t x entry.zone (λ z. image.sector z (8 * x + i % 8)) (λ z. other z (8 * x + i % 8)) _ _
       (λ z named valid. place z (inl named) valid)
       (where_it_is P t x entry.buffer (λ z. image.sector z (8 * x + i % 8)) (λ z. other z (8 * x + i % 8)) zero_sector zero_sector (λ z named valid. place z (inr named) valid) zeros)

@@ -8,7 +8,7 @@ use Rattle.std.proofs.lemmas.List.Folds.{list_any-append}
 use Rattle.std.proofs.lemmas.Bool.{cases_lt}
 use Rattle.zd_base.specs.Geometry.{Shape, zone_count, is_conventional}
 use Rattle.zd_base.specs.Layout.{first_data_zone}
-use Rattle.zd_model.specs.Tables.{Names, MapFollowsRules, zones_of}
+use Rattle.zd_model.specs.Tables.{NamesZone, MapFollowsRules, zones_of}
 use Rattle.zd_model.specs.Faults.{has, is_right_entry, bad_chunk}
 use Rattle.zd_base.specs.declared.layout.Layout.{Layout}
 use Rattle.zd_model.specs.declared.metadata.MapEntry.{MapEntry}
@@ -65,12 +65,12 @@ unmapped = record { zone = None; buffer = None }
 
 -- what holds of entries, where earlier ones name these zones
 pub record AreRight (g : Shape) (l : Layout) (earlier : List ℕ) (entries : List MapEntry) : Type 0 where
-  pub data_zones : (c z : ℕ) → Names (get_or entries c unmapped) z → (first_data_zone g l ≤ z) × (z < zone_count g)
-  pub new : (c z : ℕ) → Names (get_or entries c unmapped) z → has earlier z ≡ false
-  pub apart : (c d z : ℕ) → c < d → Names (get_or entries c unmapped) z → Names (get_or entries d unmapped) z → ⊥
+  pub data_zones : (c z : ℕ) → NamesZone (get_or entries c unmapped) z → (first_data_zone g l ≤ z) × (z < zone_count g)
+  pub new : (c z : ℕ) → NamesZone (get_or entries c unmapped) z → has earlier z ≡ false
+  pub apart : (c d z : ℕ) → c < d → NamesZone (get_or entries c unmapped) z → NamesZone (get_or entries d unmapped) z → ⊥
   pub buffers : (c b : ℕ) → (get_or entries c unmapped).buffer ≡ Some b → (b < g.conv) × IsSomeAnd (get_or entries c unmapped).zone (λ z. g.conv ≤ z)
 
-pub no_name : (z : ℕ) → Names unmapped z → ⊥
+pub no_name : (z : ℕ) → NamesZone unmapped z → ⊥
 no_name z (inl e) = none_some z e
 no_name z (inr e) = none_some z e
 
@@ -98,21 +98,21 @@ with_entry g l earlier e entries right others = record { data_zones = within; ne
     tests : (list_all (zone_test g l earlier) (zones_of e) ≡ true) × (option_map_or (λ b. is_conventional g b && option_map_or (λ z. not (is_conventional g z)) e.zone false) e.buffer true ≡ true)
     tests = both (list_all (zone_test g l earlier) (zones_of e)) _ right
 
-    at : (z : ℕ) → Names e z → ((leb (first_data_zone g l) z && ltb z (zone_count g)) ≡ true) × (not (has earlier z) ≡ true)
+    at : (z : ℕ) → NamesZone e z → ((leb (first_data_zone g l) z && ltb z (zone_count g)) ≡ true) × (not (has earlier z) ≡ true)
     at z k = both (leb (first_data_zone g l) z && ltb z (zone_count g)) (not (has earlier z)) (all_named (zone_test g l earlier) e.zone e.buffer z tests.0 k)
 
-    within : (c z : ℕ) → Names (get_or (e ∷ entries) c unmapped) z → (first_data_zone g l ≤ z) × (z < zone_count g)
+    within : (c z : ℕ) → NamesZone (get_or (e ∷ entries) c unmapped) z → (first_data_zone g l ≤ z) × (z < zone_count g)
     within zero z k = let bounds = both (leb (first_data_zone g l) z) (ltb z (zone_count g)) (at z k).0 in (leb-true (first_data_zone g l) z bounds.0, ltb-true z (zone_count g) bounds.1)
     within (suc c) z k = others.data_zones c z k
 
-    split : (c z : ℕ) → Names (get_or entries c unmapped) z → (has earlier z ≡ false) × (has (zones_of e) z ≡ false)
+    split : (c z : ℕ) → NamesZone (get_or entries c unmapped) z → (has earlier z ≡ false) × (has (zones_of e) z ≡ false)
     split c z k = split_or (has earlier z) (has (zones_of e) z) (sym (list_any-append (λ y. eqb y z) earlier (zones_of e)) ∙ others.new c z k)
 
-    fresh : (c z : ℕ) → Names (get_or (e ∷ entries) c unmapped) z → has earlier z ≡ false
+    fresh : (c z : ℕ) → NamesZone (get_or (e ∷ entries) c unmapped) z → has earlier z ≡ false
     fresh zero z k = not_has (has earlier z) (at z k).1
     fresh (suc c) z k = (split c z k).0
 
-    two : (c d z : ℕ) → c < d → Names (get_or (e ∷ entries) c unmapped) z → Names (get_or (e ∷ entries) d unmapped) z → ⊥
+    two : (c d z : ℕ) → c < d → NamesZone (get_or (e ∷ entries) c unmapped) z → NamesZone (get_or (e ∷ entries) d unmapped) z → ⊥
     two c zero z far k m = absurd (omega arith)
     two zero (suc d) z far k m = apart_bools (has (zones_of e) z) (has_named e.zone e.buffer z k) (split d z m).1
     two (suc c) (suc d) z far k m = others.apart c d z (omega arith) k m
@@ -128,7 +128,7 @@ no_bad_chunk g l earlier n (e ∷ entries) h =
     with_entry g l earlier e entries first.0 (no_bad_chunk g l (earlier ++ zones_of e) (n + 1) entries first.1)
 
 -- no zone is named by two chunks
-pub named_once : (g : Shape) (l : Layout) (entries : List MapEntry) → AreRight g l [] entries → (c d z : ℕ) → Names (get_or entries c unmapped) z → Names (get_or entries d unmapped) z → c ≡ d
+pub named_once : (g : Shape) (l : Layout) (entries : List MapEntry) → AreRight g l [] entries → (c d z : ℕ) → NamesZone (get_or entries c unmapped) z → NamesZone (get_or entries d unmapped) z → c ≡ d
 named_once g l entries right c d z k m =
     elim (cases_lt c d) [
       | inl less ↦ absurd (right.apart c d z less k m)

@@ -8,7 +8,7 @@ use Rattle.std.specs.List.{range_with_len}
 use Rattle.std.proofs.lemmas.List.{length-replicate}
 use Rattle.zd_model.specs.Bytes.{zero_sector}
 use Rattle.zd_base.specs.Geometry.{Shape}
-use Rattle.zd_model.specs.Tables.{Tables, MapFollowsRules, BitsFollowRules, Names, entry_of, is_set, served, sector_of}
+use Rattle.zd_model.specs.Tables.{Tables, MapFollowsRules, BitsFollowRules, NamesZone, entry_of, is_set, served, sector_of}
 use Rattle.zd_base.specs.declared.layout.Layout.{Layout}
 use Rattle.zd_model.specs.declared.metadata.MapEntry.{MapEntry}
 
@@ -44,7 +44,7 @@ no_zone e z is h = none_some z (sym (ap (λ (f : MapEntry). f.zone) is) ∙ h)
 no_buffer : (e : MapEntry) (z : ℕ) → e ≡ unmapped → e.buffer ≡ Some z → ⊥
 no_buffer e z is h = none_some z (sym (ap (λ (f : MapEntry). f.buffer) is) ∙ h)
 
-no_name : (e : MapEntry) (z : ℕ) → e ≡ unmapped → Names e z → ⊥
+no_name : (e : MapEntry) (z : ℕ) → e ≡ unmapped → NamesZone e z → ⊥
 no_name e z is (inl h) = no_zone e z is h
 no_name e z is (inr h) = no_buffer e z is h
 

@@ -5,8 +5,8 @@ use Rattle.zd_model.specs.Bytes.{zero_sector}
 use Rattle.zd_model.specs.Plain.{ends_past}
 use Rattle.zd_model.specs.History.{entry_after, last_array, IsFailedFlush, MayFail, Answers, AllAnswer}
 use Rattle.zd_model.specs.Stops.{is_acknowledged, flushed, unflushed, Puts, SomePuts, MayHold}
-use Rattle.zd_model.specs.declared.requests.What.{What}
-use Rattle.zd_model.specs.declared.requests.What.TheVariants.{Read, Write, Discard, Flush}
+use Rattle.zd_model.specs.Requests.{Operation, operation_of}
+use Rattle.zd_model.specs.Requests.Operation.{Reading, Writing, Discarding, Flushing}
 use Rattle.zd_model.specs.Plain.Answer.{Fault}
 use Rattle.zd_model.specs.History.{HistoryEntry}
 
@@ -15,29 +15,30 @@ last_array-push base [] e = refl
 last_array-push base (f ∷ history) e = last_array-push (entry_after base f.what f.reply) history e
 
 -- an entry with this reply may stand before e
-abbrev pub Allows : What → HistoryEntry → Type 0
-Allows (Read block count) e = Unit {0}
-Allows (Write block count seed) e = ⊥
-Allows (Discard block count) e = Unit {0}
-Allows Flush e = IsFailedFlush e
+abbrev pub Allows : Operation → HistoryEntry → Type 0
+Allows Reading e = Unit {0}
+Allows Writing e = ⊥
+Allows Discarding e = Unit {0}
+Allows Flushing e = IsFailedFlush e
 
 abbrev pub IsOpenTo : HistoryEntry → HistoryEntry → Type 0
-IsOpenTo e f = f.reply ≡ Fault → Allows f.what e
+IsOpenTo e f = f.reply ≡ Fault → Allows (operation_of f.what) e
 
 all-push : {X : Type 0} (P : X → Type 0) (xs : List X) (x : X) → AllByRecursion P xs → P x → AllByRecursion P (xs ++ x ∷ [])
 all-push P [] x h p = (p, tt)
 all-push P (y ∷ xs) x h p = (h.0, all-push P xs x h.1 p)
 
-may_fail-push : (what : What) (later : List HistoryEntry) (e : HistoryEntry) → Allows what e → MayFail what later → MayFail what (later ++ e ∷ [])
-may_fail-push (Read block count) later e a h = tt
-may_fail-push (Write block count seed) later e a h = absurd a
-may_fail-push (Discard block count) later e a h = h
-may_fail-push Flush later e a h = all-push IsFailedFlush later e h a
+may_fail-push : (operation : Operation) (later : List HistoryEntry) (e : HistoryEntry) → Allows operation e
+    → MayFail operation later → MayFail operation (later ++ e ∷ [])
+may_fail-push Reading later e a h = tt
+may_fail-push Writing later e a h = absurd a
+may_fail-push Discarding later e a h = h
+may_fail-push Flushing later e a h = all-push IsFailedFlush later e h a
 
 pub answers-push : (array : List (List ℕ)) (history : List HistoryEntry) (e : HistoryEntry) → AllByRecursion (IsOpenTo e) history → AllAnswer array history → Answers (last_array array history) e [] → AllAnswer array (history ++ e ∷ [])
 answers-push array [] e open_to h answer = (answer, tt)
 answers-push array (f ∷ history) e open_to h answer = (
-  elim h.0 [ inl plain ↦ inl plain | inr failed ↦ inr (failed.0, failed.1, may_fail-push f.what history e (open_to.0 failed.0) failed.2) ],
+  elim h.0 [ inl plain ↦ inl plain | inr failed ↦ inr (failed.0, failed.1, may_fail-push (operation_of f.what) history e (open_to.0 failed.0) failed.2) ],
   answers-push (entry_after array f.what f.reply) history e open_to.1 h.1 answer,
 )
 
@@ -61,7 +62,7 @@ unflushed-push k (f ∷ history) e h =
 
 -- what the entry puts into sector i
 abbrev pub Adds : ℕ → ℕ → ℕ → List ℕ → HistoryEntry → Type 0
-Adds sectors k i value e = (ends_past sectors e.what ≡ false) × Puts k i value e e.what
+Adds sectors k i value e = (ends_past sectors e.what ≡ false) × Puts k i value e
 
 some_puts-push : (sectors k i : ℕ) (value : List ℕ) (history : List HistoryEntry) (e : HistoryEntry) → SomePuts sectors k i value (history ++ e ∷ []) → SomePuts sectors k i value history ⊎ Adds sectors k i value e
 some_puts-push sectors k i value [] e h = elim h [ inl a ↦ inr a | inr none ↦ absurd none ]

@@ -4,9 +4,9 @@ use Rattle.std.specs.Prelude.{sum_by}
 use Rattle.std.specs.List.{AllByRecursion, flat_map}
 use Rattle.std.proofs.lemmas.List.{append_assoc, length-append}
 use Rattle.std.proofs.lemmas.List.Sums.{sum_by-append}
-use Rattle.zd_model.specs.Script.{HasNumbers, IsWithinLimits, Begins, IsScript, BreaksRule, Refuses, line_text, moved_blocks, discarded_blocks}
-use Rattle.zd_model.specs.Script.BreaksRule.{form, number, caller, long}
-use Rattle.zd_model.specs.Script.Refuses.{size, line}
+use Rattle.zd_model.specs.Script.{HasNumbers, IsWithinLimits, BeginsWithLines, IsScript, BreaksLineRule, RefusesScript, line_text, moved_blocks, discarded_blocks}
+use Rattle.zd_model.specs.Script.BreaksLineRule.{form, number, caller, long}
+use Rattle.zd_model.specs.Script.RefusesScript.{size, line}
 use Rattle.zd_model.specs.declared.requests.Request.{Request}
 use Rattle.zd_model.specs.declared.texts.BadLine.{BadLine}
 use Rattle.zd_model.proofs.LineLaws.{same_line, no_line}
@@ -59,19 +59,19 @@ shorter p r q h = record {
 }
 
 -- a right line breaks no rule
-right_line : {why : BadLine} (p : List Request) (rest : List ℕ) (r : Request) (tail : List ℕ) → rest ≡ line_text r ++ tail → HasNumbers r.what → r.caller ≤ 63 → IsWithinLimits (p ++ r ∷ []) → BreaksRule p rest why → ⊥
+right_line : {why : BadLine} (p : List Request) (rest : List ℕ) (r : Request) (tail : List ℕ) → rest ≡ line_text r ++ tail → HasNumbers r.what → r.caller ≤ 63 → IsWithinLimits (p ++ r ∷ []) → BreaksLineRule p rest why → ⊥
 right_line p rest r tail is numbers few within (form full none) = none r tail is
 right_line p rest r tail is numbers few within (number s after e bad) = bad (subst (λ (q : Request). HasNumbers q.what) (same_line r s tail after (sym is ∙ e)).request numbers)
 right_line p rest r tail is numbers few within (caller s after e right much) = let same = ap (λ (q : Request). q.caller) (same_line r s tail after (sym is ∙ e)).request in omega arith
 right_line p rest r tail is numbers few within (long s after e right small bad) = bad (subst (λ q. IsWithinLimits (p ++ q ∷ [])) (same_line r s tail after (sym is ∙ e)).request within)
 
-goes_on : {why : BadLine} (bytes : List ℕ) (p q : List Request) (rest more : List ℕ) → GoesOn p q rest more → Begins bytes q more → BreaksRule p rest why → ⊥
+goes_on : {why : BadLine} (bytes : List ℕ) (p q : List Request) (rest more : List ℕ) → GoesOn p q rest more → BeginsWithLines bytes q more → BreaksLineRule p rest why → ⊥
 goes_on bytes p q rest more on begins breaks =
     let numbers = middle (λ r. HasNumbers r.what) p on.first on.others (subst (AllByRecursion (λ (r : Request). HasNumbers r.what)) on.plan begins.numbers) in
     let callers = middle (λ r. r.caller ≤ 63) p on.first on.others (subst (AllByRecursion (λ (r : Request). r.caller ≤ 63)) on.plan begins.callers) in
     right_line p rest on.first (texts on.others ++ more) on.text numbers callers (shorter p on.first on.others (subst IsWithinLimits on.plan begins.limits)) breaks
 
-both_break : {w v : BadLine} (p : List Request) (rest : List ℕ) → BreaksRule p rest w → BreaksRule p rest v → w ≡ v
+both_break : {w v : BadLine} (p : List Request) (rest : List ℕ) → BreaksLineRule p rest w → BreaksLineRule p rest v → w ≡ v
 both_break p rest (form full none) (form full' none') = refl
 both_break p rest (form full none) (number r tail e bad) = absurd (none r tail e)
 both_break p rest (form full none) (caller r tail e right much) = absurd (none r tail e)
@@ -90,27 +90,27 @@ both_break p rest (long r tail e right few bad) (caller s after k good much) = a
 both_break p rest (long r tail e right few bad) (long s after k good less worse) = refl
 
 -- a text is refused for one reason
-pub one_refusal : {w v : BadLine} {m n : ℕ} (bytes : List ℕ) → Refuses bytes m w → Refuses bytes n v → (m ≡ n) × (w ≡ v)
+pub one_refusal : {w v : BadLine} {m n : ℕ} (bytes : List ℕ) → RefusesScript bytes m w → RefusesScript bytes n v → (m ≡ n) × (w ≡ v)
 one_refusal bytes (size large) (size large') = (refl, refl)
 one_refusal bytes (size large) (line q more small begins breaks) = absurd (omega arith)
 one_refusal bytes (line p rest small begins breaks) (size large) = absurd (omega arith)
 one_refusal {w} {v} bytes (line p rest small begins breaks) (line q more small' begins' breaks') =
     elim (compare p q rest more (sym begins.text ∙ begins'.text)) [
-      | inl same ↦ (ap (λ (xs : List Request). length xs + 1) same.plan, both_break q more (subst (λ xs. BreaksRule xs more w) same.plan (subst (λ ys. BreaksRule p ys w) same.after breaks)) breaks')
+      | inl same ↦ (ap (λ (xs : List Request). length xs + 1) same.plan, both_break q more (subst (λ xs. BreaksLineRule xs more w) same.plan (subst (λ ys. BreaksLineRule p ys w) same.after breaks)) breaks')
       | inr differ ↦ elim differ [
         | inl on ↦ absurd (goes_on bytes p q rest more on begins' breaks)
         | inr on ↦ absurd (goes_on bytes q p more rest on begins breaks')
       ]
     ]
 
-nothing_breaks : {w : BadLine} (p : List Request) (rest : List ℕ) → rest ≡ [] → BreaksRule p rest w → ⊥
+nothing_breaks : {w : BadLine} (p : List Request) (rest : List ℕ) → rest ≡ [] → BreaksLineRule p rest w → ⊥
 nothing_breaks p rest e (form full none) = full e
 nothing_breaks p rest e (number r tail k bad) = no_line r tail (sym e ∙ k)
 nothing_breaks p rest e (caller r tail k right much) = no_line r tail (sym e ∙ k)
 nothing_breaks p rest e (long r tail k right few bad) = no_line r tail (sym e ∙ k)
 
 -- a script is not refused
-pub script_stands : {w : BadLine} {n : ℕ} (bytes : List ℕ) (plan : List Request) → IsScript bytes plan → Refuses bytes n w → ⊥
+pub script_stands : {w : BadLine} {n : ℕ} (bytes : List ℕ) (plan : List Request) → IsScript bytes plan → RefusesScript bytes n w → ⊥
 script_stands bytes plan s (size large) = let small = s.size in omega arith
 script_stands bytes plan s (line p rest small begins breaks) =
     elim (compare p plan rest [] (sym begins.text ∙ s.lines.text)) [

@@ -1,17 +1,22 @@
 -- A plain array of sectors stays one, and what it replies can be reported.
-use Rattle.std.proofs.Common.{◌≡◌, ℕ, zero, suc, ◌+◌, ◌-◌, ◌*◌, ◌<◌, ◌≤◌, Bool, true, false, cond, not}
-use Rattle.std.proofs.Common.{List, [], ◌∷◌, ◌++◌, length, map, take, drop, replicate, refl, sym, ap}
-use Rattle.std.proofs.Common.{◌∙◌, arith, inl, inr, leb, All, subst}
-use borrow.Author.Tests.{leb-true}
+use Rattle.std.proofs.Common.{◌≡◌, ℕ, zero, suc, ◌+◌, ◌-◌, ◌*◌, ◌<◌, ◌≤◌, Bool, true, false, cond}
+use Rattle.std.proofs.Common.{List, [], ◌∷◌, ◌++◌, length, map, take, drop, refl, sym, ap, Option, Some}
+use Rattle.std.proofs.Common.{None, slice_range, ◌∙◌, arith, inl, inr, All, subst}
 use Rattle.std.specs.List.{AllByRecursion, concat, range_with_len}
+use Rattle.std.specs.Option.{option_map_or}
 use Rattle.std.proofs.lemmas.List.{length-append, length-drop, length-take-le}
-use Rattle.zd_model.specs.Bytes.{IsSector, zero_sector}
+use Rattle.zd_model.specs.Bytes.{IsSector, overwrite}
 use Rattle.zd_model.specs.History.{HistoryEntry, AllAnswer, entry_after, last_array}
-use Rattle.zd_model.specs.Plain.{Answer, pattern, ends_past, reply_within, reply_to, within_after}
+use Rattle.zd_model.specs.Requests.{Operation, first_sector, operation_of, sector_count}
+use Rattle.zd_model.specs.Requests.Operation.{Reading, Writing, Discarding, Flushing}
+use Rattle.zd_model.specs.Plain.{Answer, answer_in_range, ends_past, put_by, reply_within, reply_to}
+use Rattle.zd_model.specs.Plain.{within_after}
 use Rattle.zd_model.specs.Plain.Answer.{Got, Done, Range, Fault}
-use Rattle.zd_model.specs.Report.{HasReply, IsReported}
+use Rattle.zd_model.specs.Report.{HasReply, IsReported, IsReplyOf}
 use Rattle.zd_model.specs.declared.requests.What.{What}
 use Rattle.zd_model.specs.declared.requests.What.TheVariants.{Read, Write, Discard, Flush}
+use Rattle.zd_model.specs.declared.requests.What.TheVariants.{ReadSectors, WriteSectors}
+use Rattle.zd_model.proofs.ArrayLaws.{ends_within}
 use Rattle.zd_model.proofs.SectorLaws.{each-append, pattern-sector, zero_sector-sector}
 
 abbrev pub AreSectors : List (List ℕ) → Type 0
@@ -36,10 +41,6 @@ each-map : {X : Type 0} (P : X → Type 0) (f : ℕ → X) → ((i : ℕ) → P 
 each-map P f h a zero = tt
 each-map P f h a (suc n) = (h a, each-map P f h (a + 1) n)
 
-each-replicate : {X : Type 0} (P : X → Type 0) (x : X) → P x → (n : ℕ) → AllByRecursion P (replicate n x)
-each-replicate P x h zero = tt
-each-replicate P x h (suc n) = (h, each-replicate P x h n)
-
 -- sectors joined
 concat-bytes : (xs : List (List ℕ)) → AreSectors xs → AllByRecursion (λ b. b < 256) (concat xs)
 concat-bytes [] h = tt
@@ -49,15 +50,33 @@ length-concat : (xs : List (List ℕ)) → AreSectors xs → length (concat xs) 
 length-concat [] h = refl
 length-concat (x ∷ xs) h = length-append x (concat xs) ∙ (let one = h.0.0 in let rest = length-concat xs h.1 in omega arith)
 
+-- what is put are sectors
+PutsSectors : Option (ℕ → List ℕ) → Type 0
+PutsSectors None = Unit {0}
+PutsSectors (Some put) = (i : ℕ) → IsSector (put i)
+
+put-sectors : (what : What) → PutsSectors (put_by what)
+unfolding PutsSectors
+put-sectors (Read b n) = tt
+put-sectors (Write b n s) = pattern-sector s
+put-sectors (Discard b n) = λ i. zero_sector-sector
+put-sectors Flush = tt
+put-sectors (ReadSectors i n) = tt
+put-sectors (WriteSectors i n s) = pattern-sector s
+
+over-sectors : (array : List (List ℕ)) (first n : ℕ) (put : Option (ℕ → List ℕ)) → AreSectors array → PutsSectors put
+    → AreSectors (option_map_or (λ p. overwrite array first (map p (range_with_len first n))) put array)
+unfolding PutsSectors
+over-sectors array first n None h puts = h
+over-sectors array first n (Some p) h puts =
+    let before = each-take IsSector first array h in
+    let new = each-map IsSector p puts first n in
+    each-append IsSector (take first array ++ map p (range_with_len first n)) _
+    (each-append IsSector (take first array) _ before new) (each-drop IsSector _ array h)
+
 pub within-sectors : (array : List (List ℕ)) (what : What) → AreSectors array → AreSectors (within_after array what)
-within-sectors array (Read block count) h = h
-within-sectors array (Write block count seed) h =
-    let new = each-map IsSector (pattern seed) (pattern-sector seed) (8 * block) (8 * count) in
-    each-append IsSector (take (8 * block) array ++ map (pattern seed) (range_with_len (8 * block) (8 * count))) _ (each-append IsSector (take (8 * block) array) _ (each-take IsSector (8 * block) array h) new) (each-drop IsSector _ array h)
-within-sectors array (Discard block count) h =
-    let new = each-replicate IsSector zero_sector zero_sector-sector (8 * count) in
-    each-append IsSector (take (8 * block) array ++ replicate (8 * count) zero_sector) _ (each-append IsSector (take (8 * block) array) _ (each-take IsSector (8 * block) array h) new) (each-drop IsSector _ array h)
-within-sectors array Flush h = h
+within-sectors array what h =
+    over-sectors array (first_sector what) (sector_count what) (put_by what) h (put-sectors what)
 
 pub entry-sectors : (array : List (List ℕ)) (what : What) (reply : Answer) → AreSectors array → AreSectors (entry_after array what reply)
 entry-sectors array what (Got bytes) h = h
@@ -69,44 +88,50 @@ entry-sectors array what Done h = by_test (ends_past (length array) what)
 entry-sectors array what Range h = h
 entry-sectors array what Fault h = h
 
-not_past : (last sectors : ℕ) → not (leb last sectors) ≡ false → last ≤ sectors
-not_past last sectors h = leb-true last sectors (double (leb last sectors) h)
-  where
-    double : (b : Bool) → not b ≡ false → b ≡ true
-    double true e = refl
-    double false e = cc
+-- the bytes of n sectors
+AreBytesOf : ℕ → List ℕ → Type 0
+AreBytesOf n bytes = (length bytes ≡ 512 * n) × AllByRecursion (λ b. b < 256) bytes
 
--- the bytes of a read in range
-read-reply : (array : List (List ℕ)) (block count : ℕ) → AreSectors array → 8 * (block + count) ≤ length array → HasReply (Read block count) (reply_within array (Read block count))
-read-reply array block count h within =
-    let part : List (List ℕ) = take (8 * (block + count) - 8 * block) (drop (8 * block) array) in
-    let sectors : AreSectors part = each-take IsSector _ (drop (8 * block) array) (each-drop IsSector (8 * block) array h) in
-    let size : length part ≡ 8 * count = length-take-le (8 * (block + count) - 8 * block) (drop (8 * block) array) (omega (arith, length-drop (8 * block) array)) ∙ omega arith in
-    (length-concat part sectors ∙ ap (λ (n : ℕ). 512 * n) size, concat-bytes part sectors)
+bytes_between : (array : List (List ℕ)) (first n : ℕ) → AreSectors array → first + n ≤ length array
+    → AreBytesOf n (concat (slice_range array first (first + n)))
+unfolding AreBytesOf
+bytes_between array first n h within =
+    let part : List (List ℕ) = take (first + n - first) (drop first array) in
+    let sectors : AreSectors part = each-take IsSector _ (drop first array) (each-drop IsSector first array h) in
+    let size : length part ≡ n = length-take-le (first + n - first) (drop first array) (omega (arith, length-drop first array)) ∙ omega arith in
+    (length-concat part sectors ∙ ap (λ (m : ℕ). 512 * m) size, concat-bytes part sectors)
+
+answer-told : (operation : Operation) (n : ℕ) (bytes : List ℕ) → AreBytesOf n bytes
+    → IsReplyOf operation n (answer_in_range operation bytes)
+unfolding AreBytesOf
+answer-told Reading n bytes h = h
+answer-told Writing n bytes h = tt
+answer-told Discarding n bytes h = tt
+answer-told Flushing n bytes h = tt
+
+range-told : (operation : Operation) (n : ℕ) → IsReplyOf operation n Range
+range-told Reading n = tt
+range-told Writing n = tt
+range-told Discarding n = tt
+range-told Flushing n = tt
+
+pub fault-told : (operation : Operation) (n : ℕ) → IsReplyOf operation n Fault
+fault-told Reading n = tt
+fault-told Writing n = tt
+fault-told Discarding n = tt
+fault-told Flushing n = tt
 
 pub plain-reported : (array : List (List ℕ)) (what : What) → AreSectors array → HasReply what (reply_to array what)
-plain-reported array (Read block count) h = by_test (ends_past (length array) (Read block count)) refl
+plain-reported array what h = by_test (ends_past (length array) what) refl
   where
-    by_test : (b : Bool) → ends_past (length array) (Read block count) ≡ b → HasReply (Read block count) (cond b Range (reply_within array (Read block count)))
-    by_test true e = tt
-    by_test false e = read-reply array block count h (not_past (8 * (block + count)) (length array) e)
-plain-reported array (Write block count seed) h = by_test (ends_past (length array) (Write block count seed))
-  where
-    by_test : (b : Bool) → HasReply (Write block count seed) (cond b Range Done)
-    by_test true = tt
-    by_test false = tt
-plain-reported array (Discard block count) h = by_test (ends_past (length array) (Discard block count))
-  where
-    by_test : (b : Bool) → HasReply (Discard block count) (cond b Range Done)
-    by_test true = tt
-    by_test false = tt
-plain-reported array Flush h = tt
+    by_test : (b : Bool) → ends_past (length array) what ≡ b → HasReply what (cond b Range (reply_within array what))
+    by_test true e = range-told (operation_of what) (sector_count what)
+    by_test false e =
+        answer-told (operation_of what) (sector_count what) _
+        (bytes_between array (first_sector what) (sector_count what) h (ends_within (length array) what e))
 
 fault-reported : (what : What) → HasReply what Fault
-fault-reported (Read block count) = tt
-fault-reported (Write block count seed) = tt
-fault-reported (Discard block count) = tt
-fault-reported Flush = tt
+fault-reported what = fault-told (operation_of what) (sector_count what)
 
 -- each entry of a history of sectors can be reported
 pub answers-reported : (array : List (List ℕ)) (history : List HistoryEntry) → AreSectors array → AllAnswer array history → AllByRecursion IsReported history

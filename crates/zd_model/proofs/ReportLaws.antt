@@ -1,16 +1,15 @@
 -- A report determines its history and how it ended.
-use Rattle.std.proofs.Common.{◌≡◌, ℕ, ◌*◌, List, [], ◌∷◌, ◌++◌, length, map, refl, sym, ap, ap₂, ◌∙◌, arith, subst, get_or, if◌then◌else◌, ◌==◌, codes, Bool, true, false, not, eqb, drop}
+use Rattle.std.proofs.Common.{◌≡◌, ℕ, ◌*◌, List, [], ◌∷◌, ◌++◌, length, map, refl, sym, ap, ap₂, ◌∙◌, arith, subst, get_or, if◌then◌else◌, ◌==◌, codes, drop}
 use Rattle.std.proofs.lemmas.List.{append_assoc}
 use Rattle.std.specs.List.{AllByRecursion, join_with_byte, flat_map}
 use Rattle.zd_model.specs.Text.{numeral}
-use Rattle.zd_model.specs.Pieces.{first_block}
-use Rattle.zd_model.specs.Script.{letter, numbers_of}
-use Rattle.std.proofs.lemmas.Bool.{false≢true}
+use Rattle.zd_model.specs.Requests.{Operation, first_sector, operation_of, sector_count}
+use Rattle.zd_model.specs.Requests.Operation.{Reading, Writing, Discarding, Flushing}
+use Rattle.zd_model.specs.Script.{letters_of, numbers_of}
 use Rattle.zd_model.specs.declared.texts.BadLine.{BadLine}
 use Rattle.zd_model.specs.declared.texts.BadLine.TheVariants as lines
-use Rattle.zd_model.specs.Report.{why_text, items_text, reply_text, entry_text, outcome_text, output, report, status_of, HasReply, IsReported}
+use Rattle.zd_model.specs.Report.{why_text, items_text, reply_text, entry_text, outcome_status, outcome_text, report, run_output, HasReply, IsReported, IsReplyOf}
 use Rattle.zd_model.specs.declared.requests.What.{What}
-use Rattle.zd_model.specs.declared.requests.What.TheVariants.{Read, Write, Discard, Flush}
 use Rattle.zd_model.specs.Plain.{Answer}
 use Rattle.zd_model.specs.Plain.Answer.{Got, Done, Range, Fault}
 use Rattle.zd_model.specs.History.{HistoryEntry}
@@ -21,7 +20,7 @@ use Rattle.zd_model.specs.declared.texts.Outcome.TheVariants as outcomes
 use Rattle.zd_model.specs.declared.texts.NoVolume.TheVariants as volumes
 use Rattle.zd_base.specs.declared.numbers.Why.TheVariants as whys
 use Rattle.zd_model.proofs.TextLaws.{IsDigit, same_numeral, head_is, tail_is, numeral_head}
-use Rattle.zd_model.proofs.LineLaws.{what_is}
+use Rattle.zd_model.proofs.LineLaws.{letters_plain, same_count, same_word, what_is}
 use Rattle.zd_model.proofs.ItemLaws.{AllBytes}
 use Rattle.zd_model.proofs.ReadLaws.{same_items}
 
@@ -31,7 +30,7 @@ numbers_then (n ∷ ns) rest = numeral n ++ 32 ∷ numbers_then ns rest
 
 -- the line from left to right
 line_parts : HistoryEntry → List ℕ → List ℕ
-line_parts e rest = numeral e.caller ++ 32 ∷ (numeral e.request ++ 32 ∷ (numeral e.piece ++ 32 ∷ (letter e.what ∷ 32 ∷ numbers_then (numbers_of e.what) (reply_text e.what e.reply ++ 32 ∷ 64 ∷ (numeral e.at ++ 10 ∷ rest)))))
+line_parts e rest = numeral e.caller ++ 32 ∷ (numeral e.request ++ 32 ∷ (numeral e.piece ++ 32 ∷ (letters_of e.what ++ 32 ∷ numbers_then (numbers_of e.what) (reply_text e.what e.reply ++ 32 ∷ 64 ∷ (numeral e.at ++ 10 ∷ rest)))))
 
 words_split : (x y : List ℕ) (words : List (List ℕ)) (rest : List ℕ) → join_with_byte 32 (x ∷ y ∷ words) ++ rest ≡ x ++ 32 ∷ (join_with_byte 32 (y ∷ words) ++ rest)
 words_split x y words rest = append_assoc x (32 ∷ join_with_byte 32 (y ∷ words)) rest
@@ -42,20 +41,20 @@ numbers_split [] reply at rest = append_assoc reply (32 ∷ at) rest
 numbers_split (n ∷ []) reply at rest = words_split (numeral n) reply (at ∷ []) rest ∙ ap (λ xs. numeral n ++ 32 ∷ xs) (numbers_split [] reply at rest)
 numbers_split (n ∷ m ∷ ns) reply at rest = words_split (numeral n) (numeral m) (map numeral ns ++ reply ∷ at ∷ []) rest ∙ ap (λ xs. numeral n ++ 32 ∷ xs) (numbers_split (m ∷ ns) reply at rest)
 
-letter_split : (l : ℕ) (ns : List ℕ) (reply at rest : List ℕ) → join_with_byte 32 ((l ∷ []) ∷ (map numeral ns ++ reply ∷ at ∷ [])) ++ rest ≡ l ∷ 32 ∷ numbers_then ns (reply ++ 32 ∷ (at ++ rest))
-letter_split l [] reply at rest = words_split (l ∷ []) reply (at ∷ []) rest ∙ ap (λ xs. l ∷ 32 ∷ xs) (numbers_split [] reply at rest)
-letter_split l (n ∷ ns) reply at rest = words_split (l ∷ []) (numeral n) (map numeral ns ++ reply ∷ at ∷ []) rest ∙ ap (λ xs. l ∷ 32 ∷ xs) (numbers_split (n ∷ ns) reply at rest)
+letters_split : (l ns reply at rest : List ℕ) → join_with_byte 32 (l ∷ (map numeral ns ++ reply ∷ at ∷ [])) ++ rest ≡ l ++ 32 ∷ numbers_then ns (reply ++ 32 ∷ (at ++ rest))
+letters_split l [] reply at rest = words_split l reply (at ∷ []) rest ∙ ap (λ xs. l ++ 32 ∷ xs) (numbers_split [] reply at rest)
+letters_split l (n ∷ ns) reply at rest = words_split l (numeral n) (map numeral ns ++ reply ∷ at ∷ []) rest ∙ ap (λ xs. l ++ 32 ∷ xs) (numbers_split (n ∷ ns) reply at rest)
 
 entry_split : (e : HistoryEntry) (rest : List ℕ) → entry_text e ++ rest ≡ line_parts e rest
 unfolding entry_text line_parts
 entry_split e rest =
     let tail : List (List ℕ) = map numeral (numbers_of e.what) ++ reply_text e.what e.reply ∷ (64 ∷ numeral e.at) ∷ [] in
-    let words : List (List ℕ) = (letter e.what ∷ []) ∷ tail in
+    let words : List (List ℕ) = letters_of e.what ∷ tail in
     append_assoc (join_with_byte 32 (numeral e.caller ∷ numeral e.request ∷ numeral e.piece ∷ words)) (10 ∷ []) rest
     ∙ words_split (numeral e.caller) (numeral e.request) (numeral e.piece ∷ words) (10 ∷ rest)
     ∙ ap (λ xs. numeral e.caller ++ 32 ∷ xs) (words_split (numeral e.request) (numeral e.piece) words (10 ∷ rest)
-    ∙ ap (λ xs. numeral e.request ++ 32 ∷ xs) (words_split (numeral e.piece) (letter e.what ∷ []) tail (10 ∷ rest)
-    ∙ ap (λ xs. numeral e.piece ++ 32 ∷ xs) (letter_split (letter e.what) (numbers_of e.what) (reply_text e.what e.reply) (64 ∷ numeral e.at) (10 ∷ rest))))
+    ∙ ap (λ xs. numeral e.request ++ 32 ∷ xs) (words_split (numeral e.piece) (letters_of e.what) tail (10 ∷ rest)
+    ∙ ap (λ xs. numeral e.piece ++ 32 ∷ xs) (letters_split (letters_of e.what) (numbers_of e.what) (reply_text e.what e.reply) (64 ∷ numeral e.at) (10 ∷ rest))))
 
 space : IsDigit 32 → ⊥
 space d = let h = d.low in omega arith
@@ -77,37 +76,19 @@ same_numbers (m ∷ ms) (n ∷ ns) rest more l e =
     let others = same_numbers ms ns rest more (omega arith) first.after in
     record { value = ap₂ (λ (x : ℕ) (xs : List ℕ). x ∷ xs) first.number others.value; after = others.after }
 
-same_length : (v w : What) → letter v ≡ letter w → length (numbers_of v) ≡ length (numbers_of w)
-same_length (Read b n) (Read c m) l = refl
-same_length (Read b n) (Write c m t) l = absurd (omega arith)
-same_length (Read b n) (Discard c m) l = refl
-same_length (Read b n) Flush l = absurd (omega arith)
-same_length (Write b n s) (Read c m) l = absurd (omega arith)
-same_length (Write b n s) (Write c m t) l = refl
-same_length (Write b n s) (Discard c m) l = absurd (omega arith)
-same_length (Write b n s) Flush l = absurd (omega arith)
-same_length (Discard b n) (Read c m) l = refl
-same_length (Discard b n) (Write c m t) l = absurd (omega arith)
-same_length (Discard b n) (Discard c m) l = refl
-same_length (Discard b n) Flush l = absurd (omega arith)
-same_length Flush (Read c m) l = absurd (omega arith)
-same_length Flush (Write c m t) l = absurd (omega arith)
-same_length Flush (Discard c m) l = absurd (omega arith)
-same_length Flush Flush l = refl
-
--- bytes that answer a read of n blocks
-read_bytes : (what : What) (bytes : List ℕ) → HasReply what (Got bytes) → (n : ℕ) × (length bytes ≡ 512 * (8 * n)) × AllBytes bytes
-read_bytes (Read b n) bytes h = (n, h.0, h.1)
-read_bytes (Write b n s) bytes h = absurd h
-read_bytes (Discard b n) bytes h = absurd h
-read_bytes Flush bytes h = absurd h
+-- bytes that were answered are whole sectors
+read_bytes : (operation : Operation) (n : ℕ) (bytes : List ℕ) → IsReplyOf operation n (Got bytes) → (length bytes ≡ 512 * n) × AllBytes bytes
+read_bytes Reading n bytes h = h
+read_bytes Writing n bytes h = absurd h
+read_bytes Discarding n bytes h = absurd h
+read_bytes Flushing n bytes h = absurd h
 
 same_reply : (w : What) (r q : Answer) (rest more : List ℕ) → HasReply w r → HasReply w q → reply_text w r ++ 32 ∷ rest ≡ reply_text w q ++ 32 ∷ more → Same r q rest more
 same_reply w (Got xs) (Got ys) rest more h k e =
-    let left = read_bytes w xs h in
-    let right = read_bytes w ys k in
-    let inside : items_text (first_block w) xs ++ 32 ∷ rest ≡ items_text (first_block w) ys ++ 32 ∷ more = cc in
-    let same = same_items (first_block w) (8 * left.0) (8 * right.0) xs ys rest more left.1 right.1 left.2 right.2 inside in
+    let left = read_bytes (operation_of w) (sector_count w) xs h in
+    let right = read_bytes (operation_of w) (sector_count w) ys k in
+    let inside : items_text (first_sector w) xs ++ 32 ∷ rest ≡ items_text (first_sector w) ys ++ 32 ∷ more = cc in
+    let same = same_items (first_sector w) (sector_count w) (sector_count w) xs ys rest more left.0 right.0 left.1 right.1 inside in
     record { value = ap Got same.bytes; after = same.after }
 same_reply w (Got xs) Done rest more h k e = absurd (let f = head_is 97 111 _ _ (tail_is 100 100 _ _ e) in omega arith)
 same_reply w (Got xs) Range rest more h k e = absurd (let f = head_is 100 114 _ _ e in omega arith)
@@ -132,10 +113,9 @@ same_entry e f rest more h k eq =
     let callers = same_numeral e.caller f.caller 32 32 _ _ space space whole in
     let requests = same_numeral e.request f.request 32 32 _ _ space space callers.after in
     let pieces = same_numeral e.piece f.piece 32 32 _ _ space space requests.after in
-    let letters = head_is (letter e.what) (letter f.what) _ _ pieces.after in
-    let behind = tail_is 32 32 _ _ (tail_is (letter e.what) (letter f.what) _ _ pieces.after) in
-    let numbers = same_numbers (numbers_of e.what) (numbers_of f.what) _ _ (same_length e.what f.what letters) behind in
-    let what = what_is e.what f.what letters numbers.value in
+    let letters = same_word (letters_of e.what) (letters_of f.what) _ _ (letters_plain e.what) (letters_plain f.what) pieces.after in
+    let numbers = same_numbers (numbers_of e.what) (numbers_of f.what) _ _ (same_count e.what f.what letters.word) letters.after in
+    let what = what_is e.what f.what letters.word numbers.value in
     let told : reply_text f.what e.reply ++ 32 ∷ 64 ∷ (numeral e.at ++ 10 ∷ rest) ≡ reply_text f.what f.reply ++ 32 ∷ 64 ∷ (numeral f.at ++ 10 ∷ more) = subst (λ w. reply_text w e.reply ++ 32 ∷ 64 ∷ (numeral e.at ++ 10 ∷ rest) ≡ reply_text f.what f.reply ++ 32 ∷ 64 ∷ (numeral f.at ++ 10 ∷ more)) what numbers.after in
     let replies = same_reply f.what e.reply f.reply _ _ (subst (λ w. HasReply w e.reply) what h) k told in
     let times = same_numeral e.at f.at 10 10 rest more feed feed (tail_is 64 64 _ _ replies.after) in
@@ -331,7 +311,7 @@ same_outcome o p e = by_kind o refl
     by_kind outcomes.NotBuilt is = plain (ap kind_of is)
 
 -- and begins with its status
-pub tells_status : (o : Outcome) → (rest : List ℕ) × (outcome_text o ≡ codes "end " ++ numeral (status_of o) ++ 32 ∷ rest)
+pub tells_status : (o : Outcome) → (rest : List ℕ) × (outcome_text o ≡ codes "end " ++ numeral (outcome_status o) ++ 32 ∷ rest)
 unfolding numeral
 tells_status (outcomes.Ended endings.Ok) = (_, refl)
 tells_status (outcomes.Ended (endings.Stopped whys.Device)) = (_, refl)
@@ -351,8 +331,8 @@ pub record SameOutput (history other : List HistoryEntry) (outcome last : Outcom
   pub outcomes_are : outcome ≡ last
 
 -- an output determines the history and the outcome
-pub same_output : (history other : List HistoryEntry) (outcome last : Outcome) → AllByRecursion IsReported history → AllByRecursion IsReported other → output history outcome ≡ output other last → SameOutput history other outcome last
-unfolding output
+pub same_output : (history other : List HistoryEntry) (outcome last : Outcome) → AllByRecursion IsReported history → AllByRecursion IsReported other → run_output history outcome ≡ run_output other last → SameOutput history other outcome last
+unfolding run_output
 same_output [] [] outcome last h k e = record { entries = refl; outcomes_are = same_outcome outcome last e }
 same_output [] (f ∷ other) outcome last h k e = absurd (no_entry outcome f (flat_map entry_text other ++ outcome_text last) (e ∙ append_assoc (entry_text f) (flat_map entry_text other) (outcome_text last)))
 same_output (f ∷ history) [] outcome last h k e = absurd (no_entry last f (flat_map entry_text history ++ outcome_text outcome) (sym e ∙ append_assoc (entry_text f) (flat_map entry_text history) (outcome_text outcome)))
@@ -362,8 +342,8 @@ same_output (f ∷ history) (g ∷ other) outcome last h k e =
     record { entries = ap₂ (λ (x : HistoryEntry) (xs : List HistoryEntry). x ∷ xs) first.value others.entries; outcomes_are = others.outcomes_are }
 
 -- a report is the output of a session's ending
-pub report_output : (history : List HistoryEntry) (ending : Ending) → report history ending ≡ output history (outcomes.Ended ending)
-unfolding report output
+pub report_output : (history : List HistoryEntry) (ending : Ending) → report history ending ≡ run_output history (outcomes.Ended ending)
+unfolding report run_output
 report_output history ending = refl
 
 ending_of : Outcome → Ending

@@ -14,8 +14,8 @@ answer_of Range = answers.Range
 answer_of Fault = answers.Fault
 
 -- an entry with its answer so
-abbrev pub entry_of : Entry → HistoryEntry
-entry_of e = record {
+abbrev pub shown_entry : Entry → HistoryEntry
+shown_entry e = record {
   caller = e.caller;
   request = e.request;
   piece = e.piece;

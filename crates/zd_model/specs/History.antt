@@ -1,11 +1,13 @@
 -- When a history is one of the plain list of sectors, and when it keeps each caller's order.
-use Rattle.std.specs.Prelude.{◌≡◌, ◌⊎◌, ℕ, ◌+◌, ◌≤◌, false, ◌==◌, if◌then◌else◌, List, [], ◌∷◌}
+use Rattle.std.specs.Prelude.{◌≡◌, ◌⊎◌, ℕ, ◌+◌, ◌≤◌, Bool, false, ◌==◌, List, [], ◌∷◌}
 use Rattle.std.specs.Prelude.{◌++◌, length, map, fold, filter}
 use Rattle.std.specs.List.{AllByRecursion}
+use Rattle.zd_model.specs.Requests.{operation_of, Operation}
+use Rattle.zd_model.specs.Requests.Operation.{Reading, Writing, Discarding, Flushing}
 use Rattle.zd_model.specs.Plain.{ends_past, reply_to, array_after}
 use Rattle.zd_model.specs.Pieces.{pieces_of}
 use Rattle.zd_model.specs.declared.requests.What.{What}
-use Rattle.zd_model.specs.declared.requests.What.TheVariants.{Read, Write, Discard, Flush}
+use Rattle.zd_model.specs.declared.requests.What.TheVariants.{Flush}
 use Rattle.zd_model.specs.Plain.{Answer}
 use Rattle.zd_model.specs.Plain.Answer.{Done, Fault}
 use Rattle.zd_model.specs.declared.requests.Piece.{Piece}
@@ -33,19 +35,20 @@ last_array base history = fold (λ array e. entry_after array e.what e.reply) ba
 abbrev pub IsFailedFlush : HistoryEntry → Type 0
 IsFailedFlush e = (e.what ≡ Flush) × (e.reply ≡ Fault)
 
--- which requests may fail: a read; a write that is the last entry; a flush where each later entry
--- is a flush that failed
-abbrev pub MayFail : What → List HistoryEntry → Type 0
-MayFail (Read block count) later = Unit {0}
-MayFail (Write block count seed) later = later ≡ []
-MayFail (Discard block count) later = ⊥
-MayFail Flush later = AllByRecursion IsFailedFlush later
+-- what may fail: a read; a write that is the last entry; a flush where each later entry is a flush
+-- that failed
+abbrev pub MayFail : Operation → List HistoryEntry → Type 0
+MayFail Reading later = Unit {0}
+MayFail Writing later = later ≡ []
+MayFail Discarding later = ⊥
+MayFail Flushing later = AllByRecursion IsFailedFlush later
 
 -- the entry has the reply of the array before it, or it is in range and may fail
 abbrev pub Answers : List (List ℕ) → HistoryEntry → List HistoryEntry → Type 0
 Answers array e later =
     (e.reply ≡ reply_to array e.what)
-    ⊎ ((e.reply ≡ Fault) × (ends_past (length array) e.what ≡ false) × MayFail e.what later)
+    ⊎ ((e.reply ≡ Fault) × (ends_past (length array) e.what ≡ false)
+    × MayFail (operation_of e.what) later)
 
 -- each entry in turn, from this array on
 abbrev pub AllAnswer : List (List ℕ) → List HistoryEntry → Type 0
@@ -53,11 +56,15 @@ AllAnswer array [] = Unit {0}
 AllAnswer array (e ∷ later) =
     Answers array e later × AllAnswer (entry_after array e.what e.reply) later
 
+-- how many writing calls an operation takes at least; none where it ends past the device
+abbrev pub calls_needed : Operation → Bool → ℕ
+calls_needed Writing false = 1
+calls_needed operation past = 0
+
 -- how much greater the number of writing calls is than that of the entry before: by one at least
 -- for a write in range
 abbrev pub waits : ℕ → What → ℕ
-waits sectors (Write block count seed) = if ends_past sectors (Write block count seed) then 0 else 1
-waits sectors what = 0
+waits sectors what = calls_needed (operation_of what) (ends_past sectors what)
 
 -- the numbers of writing calls never fall, and rise at a write in range
 abbrev pub InTime : ℕ → List HistoryEntry → Type 0

@@ -1,5 +1,5 @@
 -- What follows from the definitions.
-use Rattle.std.specs.Prelude.{◌≡◌, ◌↔◌, ℕ, ◌+◌, ◌*◌, ◌≤◌, false, None, List, [], ◌∷◌, ◌++◌, map, Ok}
+use Rattle.std.specs.Prelude.{◌≡◌, ◌↔◌, ℕ, ◌+◌, ◌*◌, ◌/◌, ◌<◌, ◌≤◌, false, None, List, [], ◌∷◌, ◌++◌, map, Ok}
 use Rattle.std.specs.Prelude.{All, codes, length}
 use Rattle.std.specs.List.{AllByRecursion, last_or}
 use Rattle.zd_model.specs.Bytes.{AreBytes, IsSector}
@@ -13,17 +13,20 @@ use Rattle.zd_base.specs.declared.layout.Layout.{Layout}
 use Rattle.zd_model.specs.declared.metadata.MapEntry.{MapEntry}
 use Rattle.zd_model.specs.Super.{IsSuper, HasBlock, decoded, block_of}
 use Rattle.zd_model.specs.Plain.{ends_past, pattern}
-use Rattle.zd_model.specs.Pieces.{first_block, block_count, pieces_of_request}
-use Rattle.zd_model.specs.Cut.{IsCut, Moves}
-use Rattle.zd_model.specs.Script.{IsScript, Refuses}
-use Rattle.zd_model.specs.Report.{IsReported, outcome_text, output, report, status_of}
+use Rattle.zd_model.specs.Requests.{block_count, first_block, first_sector, sector_count}
+use Rattle.zd_model.specs.Requests.{operation_of, Moves}
+use Rattle.zd_model.specs.Pieces.{pieces_of_request}
+use Rattle.zd_model.specs.Cut.{IsCut}
+use Rattle.zd_model.specs.Script.{IsScript, RefusesScript}
+use Rattle.zd_model.specs.Report.{IsReported, outcome_status, outcome_text, report, run_output}
 use Rattle.zd_model.specs.declared.texts.Outcome.{Outcome}
 use Rattle.zd_model.specs.declared.texts.Outcome.TheVariants as outcomes
 use Rattle.zd_model.specs.declared.metadata.Super.{Super}
 use Rattle.zd_model.specs.declared.requests.Request.{Request}
+use Rattle.zd_model.specs.declared.requests.What.{What}
 use Rattle.zd_model.specs.declared.requests.Piece.{Piece}
 use Rattle.zd_model.specs.History.{HistoryEntry, IsLegal, last_array}
-use Rattle.zd_model.specs.Stops.{flushed, last_flush, unflushed}
+use Rattle.zd_model.specs.Stops.{Covers, flushed, last_flush, unflushed}
 use Rattle.zd_model.specs.declared.texts.BadLine.{BadLine}
 use Rattle.zd_model.specs.declared.requests.Ending.{Ending}
 
@@ -49,11 +52,18 @@ abbrev pub DecodesToItsRecord : Type 0
 DecodesToItsRecord =
     (block : List ℕ) (s : Super) → AreBytes 4096 block → (decoded block ≡ Ok s) ↔ IsSuper block s
 
+-- the blocks that a request touches are those in which it has a sector
+abbrev pub TouchedBlocksHaveASector : Type 0
+TouchedBlocksHaveASector = (what : What) (x : ℕ) → 1 ≤ sector_count what →
+    ((first_block what ≤ x) × (x < first_block what + block_count what))
+    ↔ ((i : ℕ) × Covers what i × (i / 8 ≡ x))
+
 -- the pieces of a request follow each other, cover it, and lie in one chunk each
 abbrev pub PiecesCutARequest : Type 0
 PiecesCutARequest = (z blocks n : ℕ) (r : Request) →
-    1 ≤ z → Moves r.what → 1 ≤ block_count r.what → ends_past (8 * blocks) r.what ≡ false →
-    IsCut z (first_block r.what) (first_block r.what + block_count r.what)
+    1 ≤ z → Moves (operation_of r.what) → 1 ≤ sector_count r.what →
+    ends_past (8 * blocks) r.what ≡ false →
+    IsCut z (first_sector r.what) (first_sector r.what + sector_count r.what)
     (map (λ (p : Piece). p.what) (pieces_of_request z blocks (n, r)))
 
 -- a script is that of one plan
@@ -71,17 +81,17 @@ OneReportHasOneHistory = (history other : List HistoryEntry) (ending last : Endi
 abbrev pub OneOutputHasOneHistory : Type 0
 OneOutputHasOneHistory = (history other : List HistoryEntry) (outcome last : Outcome) →
     AllByRecursion IsReported history → AllByRecursion IsReported other →
-    output history outcome ≡ output other last → (history ≡ other) × (outcome ≡ last)
+    run_output history outcome ≡ run_output other last → (history ≡ other) × (outcome ≡ last)
 
 -- a report is the output of a session's ending
 abbrev pub AReportIsAnOutput : Type 0
 AReportIsAnOutput = (history : List HistoryEntry) (ending : Ending) →
-    report history ending ≡ output history (outcomes.Ended ending)
+    report history ending ≡ run_output history (outcomes.Ended ending)
 
 -- the line of an outcome begins with its status
 abbrev pub AnOutcomeTellsItsStatus : Type 0
 AnOutcomeTellsItsStatus = (outcome : Outcome) → (rest : List ℕ) ×
-    (outcome_text outcome ≡ codes "end " ++ numeral (status_of outcome) ++ 32 ∷ rest)
+    (outcome_text outcome ≡ codes "end " ++ numeral (outcome_status outcome) ++ 32 ∷ rest)
 
 -- what a write puts into a sector is a sector
 abbrev pub PatternsAreSectors : Type 0
@@ -117,8 +127,9 @@ NoBadBitIsRight = (g : Shape) (l : Layout) (pointer : ℕ → ℕ) (t : Tables) 
 -- bytes that are refused are no script, and are refused in one line for one rule
 abbrev pub OneTextHasOneRefusal : Type 0
 OneTextHasOneRefusal =
-    (bytes : List ℕ) (plan : List Request) (m n : ℕ) (why other : BadLine) → Refuses bytes m why →
-    (IsScript bytes plan → ⊥) × (Refuses bytes n other → (m ≡ n) × (why ≡ other))
+    (bytes : List ℕ) (plan : List Request) (m n : ℕ) (why other : BadLine) →
+    RefusesScript bytes m why →
+    (IsScript bytes plan → ⊥) × (RefusesScript bytes n other → (m ≡ n) × (why ≡ other))
 
 -- the content of a well-formed image has a sector for each place of the logical device
 abbrev pub ContentsAreSectors : Type 0

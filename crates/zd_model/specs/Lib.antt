@@ -8,6 +8,7 @@ pub mod Faults
 pub mod Image
 pub mod Left
 pub mod Volume
+pub mod Requests
 pub mod Plain
 pub mod Pieces
 pub mod Cut

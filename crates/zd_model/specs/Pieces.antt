@@ -2,43 +2,26 @@
 use Rattle.std.specs.Prelude.{ℕ, ◌+◌, ◌-◌, ◌*◌, ◌/◌, min, max, if◌then◌else◌, List, [], ◌∷◌, map}
 use Rattle.std.specs.Prelude.{flat_map}
 use Rattle.std.specs.List.{range_with_len, enumerate_from}
+use Rattle.zd_model.specs.Requests.{first_sector, sector_count, at_sectors}
 use Rattle.zd_model.specs.Plain.{ends_past}
 use Rattle.zd_model.specs.declared.requests.What.{What}
-use Rattle.zd_model.specs.declared.requests.What.TheVariants.{Read, Write, Discard, Flush}
+use Rattle.zd_model.specs.declared.requests.What.TheVariants.{Flush}
 use Rattle.zd_model.specs.declared.requests.Request.{Request}
 use Rattle.zd_model.specs.declared.requests.Piece.{Piece}
-
--- the first block; of a flush 0
-abbrev pub first_block : What → ℕ
-first_block (Read block count) = block
-first_block (Write block count seed) = block
-first_block (Discard block count) = block
-first_block Flush = 0
-
--- how many blocks; of a flush none
-abbrev pub block_count : What → ℕ
-block_count (Read block count) = count
-block_count (Write block count seed) = count
-block_count (Discard block count) = count
-block_count Flush = 0
-
--- the same at other blocks
-abbrev pub at_blocks : What → ℕ → ℕ → What
-at_blocks (Read block count) b n = Read b n
-at_blocks (Write block count seed) b n = Write b n seed
-at_blocks (Discard block count) b n = Discard b n
-at_blocks Flush b n = Flush
 
 -- the part in the i-th chunk of z blocks that is touched
 abbrev pub part_of : ℕ → What → ℕ → What
 part_of z what i =
-    let chunk = first_block what / z + i in
-    let from = max (first_block what) (z * chunk) in
-    at_blocks what from (min (first_block what + block_count what) (z * chunk + z) - from)
+    let first = first_sector what in
+    let chunk = first / (8 * z) + i in
+    let from = max first (8 * z * chunk) in
+    at_sectors what from (min (first + sector_count what) (8 * z * chunk + 8 * z) - from)
 
--- from the chunk of the first block to that of the last
+-- from the chunk of the first sector to that of the last
 abbrev pub chunks_touched : ℕ → What → ℕ
-chunks_touched z what = (first_block what + block_count what - 1) / z - first_block what / z + 1
+chunks_touched z what =
+    let first = first_sector what in
+    (first + sector_count what - 1) / (8 * z) - first / (8 * z) + 1
 
 -- one for each chunk; a flush is one part, and so is what ends past a device of this many blocks
 abbrev pub parts_of : ℕ → ℕ → What → List What

@@ -6,10 +6,10 @@ use Rattle.std.specs.List.{enumerate_from, join_with_byte, AllByRecursion}
 use Rattle.zd_model.specs.Bytes.{u32_at, zero_sector, sectors_of}
 use Rattle.zd_model.specs.Text.{numeral, hex}
 use Rattle.zd_model.specs.Plain.{pattern}
-use Rattle.zd_model.specs.Pieces.{first_block}
-use Rattle.zd_model.specs.Script.{letter, numbers_of}
+use Rattle.zd_model.specs.Requests.{first_sector, sector_count, operation_of, Operation}
+use Rattle.zd_model.specs.Requests.Operation.{Reading}
+use Rattle.zd_model.specs.Script.{letters_of, numbers_of}
 use Rattle.zd_model.specs.declared.requests.What.{What}
-use Rattle.zd_model.specs.declared.requests.What.TheVariants.{Read}
 use Rattle.zd_model.specs.Plain.{Answer}
 use Rattle.zd_model.specs.Plain.{Answer as replies}
 use Rattle.zd_model.specs.History.{HistoryEntry}
@@ -53,32 +53,36 @@ row_text (Zeros n) = codes "z" ++ numeral n
 row_text (Pattern s n) = codes "p" ++ numeral s ++ codes "x" ++ numeral n
 row_text (Other bytes) = codes "h" ++ hex bytes
 
--- the rows of bytes that were read from block b on, joined by commas
+-- the rows of bytes that were read from sector i on, joined by commas
 abbrev pub items_text : ℕ → List ℕ → List ℕ
-items_text b bytes =
-    join_with_byte 44 (map row_text (rows_of (enumerate_from (8 * b) (sectors_of bytes))))
+items_text i bytes =
+    join_with_byte 44 (map row_text (rows_of (enumerate_from i (sectors_of bytes))))
 
 -- what was answered
 abbrev pub reply_text : What → Answer → List ℕ
-reply_text what (replies.Got bytes) = codes "data " ++ items_text (first_block what) bytes
+reply_text what (replies.Got bytes) = codes "data " ++ items_text (first_sector what) bytes
 reply_text what replies.Done = codes "done"
 reply_text what replies.Range = codes "range"
 reply_text what replies.Fault = codes "fault"
 
--- the line of an entry: caller, request, piece, letter, block, count and seed, reply, `@` with the
+-- the line of an entry: caller, request, piece, letters, place, count and seed, reply, `@` with the
 -- writing calls
 unfoldable pub entry_text : HistoryEntry → List ℕ
 entry_text e = join_with_byte 32 (
-    numeral e.caller ∷ numeral e.request ∷ numeral e.piece ∷ (letter e.what ∷ [])
+    numeral e.caller ∷ numeral e.request ∷ numeral e.piece ∷ letters_of e.what
     ∷ map numeral (numbers_of e.what)
     ++ reply_text e.what e.reply ∷ (codes "@" ++ numeral e.at) ∷ []) ++ codes "\n"
 
--- bytes stand with a read, and are those of its sectors
+-- a reply of an operation: bytes are that of a read alone, and are so many sectors
+abbrev pub IsReplyOf : Operation → ℕ → Answer → Type 0
+IsReplyOf Reading sectors (replies.Got bytes) =
+    (length bytes ≡ 512 * sectors) × AllByRecursion (λ b. b < 256) bytes
+IsReplyOf operation sectors (replies.Got bytes) = ⊥
+IsReplyOf operation sectors reply = Unit {0}
+
+-- the reply is one of this request: bytes stand with a read, and are those of its sectors
 abbrev pub HasReply : What → Answer → Type 0
-HasReply (Read block count) (replies.Got bytes) =
-    (length bytes ≡ 512 * (8 * count)) × AllByRecursion (λ b. b < 256) bytes
-HasReply what (replies.Got bytes) = ⊥
-HasReply what reply = Unit {0}
+HasReply what reply = IsReplyOf (operation_of what) (sector_count what) reply
 
 -- an entry that a report can show
 abbrev pub IsReported : HistoryEntry → Type 0
@@ -96,16 +100,16 @@ unfoldable pub report : List HistoryEntry → Ending → List ℕ
 report history ending = flat_map entry_text history ++ ending_text ending
 
 -- the exit status of a run that ended so
-abbrev pub status_of : Outcome → ℕ
-status_of (outcomes.Ended endings.Ok) = 0
-status_of (outcomes.Ended (endings.Stopped whys.Device)) = 4
-status_of (outcomes.Ended (endings.Stopped whys.Memory)) = 7
-status_of (outcomes.Ended (endings.Stopped whys.Generation)) = 8
-status_of outcomes.Usage = 1
-status_of (outcomes.BadScript line why) = 2
-status_of (outcomes.NoVolume why) = 3
-status_of outcomes.Source = 5
-status_of outcomes.NotBuilt = 11
+abbrev pub outcome_status : Outcome → ℕ
+outcome_status (outcomes.Ended endings.Ok) = 0
+outcome_status (outcomes.Ended (endings.Stopped whys.Device)) = 4
+outcome_status (outcomes.Ended (endings.Stopped whys.Memory)) = 7
+outcome_status (outcomes.Ended (endings.Stopped whys.Generation)) = 8
+outcome_status outcomes.Usage = 1
+outcome_status (outcomes.BadScript line why) = 2
+outcome_status (outcomes.NoVolume why) = 3
+outcome_status outcomes.Source = 5
+outcome_status outcomes.NotBuilt = 11
 
 -- the rule that a line of a script breaks
 abbrev pub why_text : BadLine → List ℕ
@@ -131,5 +135,5 @@ outcome_text outcomes.NotBuilt = codes "end 11 not-built\n"
 
 -- all that a run prints: the lines of its entries, then that of its outcome. Where a session ended,
 -- it is the report
-unfoldable pub output : List HistoryEntry → Outcome → List ℕ
-output history outcome = flat_map entry_text history ++ outcome_text outcome
+unfoldable pub run_output : List HistoryEntry → Outcome → List ℕ
+run_output history outcome = flat_map entry_text history ++ outcome_text outcome

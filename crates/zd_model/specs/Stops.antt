@@ -1,13 +1,15 @@
 -- What a sector may hold after a stop at call k.
-use Rattle.std.specs.Prelude.{◌≡◌, ◌⊎◌, ℕ, ◌+◌, ◌*◌, ◌<◌, ◌≤◌, Bool, true, false, nat_le, ◌&&◌}
-use Rattle.std.specs.Prelude.{if◌then◌else◌, List, [], ◌∷◌, length, slice_index_or, filter, Option}
-use Rattle.std.specs.Prelude.{None}
+use Rattle.std.specs.Prelude.{◌≡◌, ◌⊎◌, ℕ, ◌+◌, ◌<◌, ◌≤◌, Bool, true, false, nat_le, ◌&&◌, List, []}
+use Rattle.std.specs.Prelude.{◌∷◌, if◌then◌else◌, length, slice_index_or, filter, Option, None}
+use Rattle.std.specs.Prelude.{IsSomeAnd}
 use Rattle.std.specs.List.{list_any, last_or}
 use Rattle.zd_model.specs.Bytes.{zero_sector}
-use Rattle.zd_model.specs.Plain.{pattern, ends_past}
+use Rattle.zd_model.specs.Requests.{first_sector, sector_count, operation_of, Operation}
+use Rattle.zd_model.specs.Requests.Operation.{Writing, Discarding}
+use Rattle.zd_model.specs.Plain.{ends_past, put_by}
 use Rattle.zd_model.specs.History.{last_array}
 use Rattle.zd_model.specs.declared.requests.What.{What}
-use Rattle.zd_model.specs.declared.requests.What.TheVariants.{Write, Discard, Flush}
+use Rattle.zd_model.specs.declared.requests.What.TheVariants.{Flush}
 use Rattle.zd_model.specs.Plain.{Answer}
 use Rattle.zd_model.specs.Plain.Answer.{Done, Fault}
 use Rattle.zd_model.specs.History.{HistoryEntry}
@@ -37,26 +39,29 @@ unflushed k [] = []
 unflushed k (e ∷ history) =
     if list_any (is_acknowledged k) (e ∷ history) then unflushed k history else e ∷ history
 
--- sector i is one of these blocks
-abbrev pub Covers : ℕ → ℕ → ℕ → Type 0
-Covers block count i = (8 * block ≤ i) × (i < 8 * (block + count))
+-- sector i is one of those that it touches
+abbrev pub Covers : What → ℕ → Type 0
+Covers what i = (first_sector what ≤ i) × (i < first_sector what + sector_count what)
 
--- what the request of entry e, which stands after the flush, may have put into sector i: a write
--- whose call is done or the next one, a discard that was done
-abbrev pub Puts : ℕ → ℕ → List ℕ → HistoryEntry → What → Type 0
-Puts k i value e (Write block count seed) =
-    (e.at ≤ k + 1) × ((e.reply ≡ Done) ⊎ (e.reply ≡ Fault))
-    × Covers block count i × (value ≡ pattern seed i)
-Puts k i value e (Discard block count) =
-    (e.at ≤ k) × (e.reply ≡ Done) × Covers block count i × (value ≡ zero_sector)
-Puts k i value e what = ⊥
+-- its operation may have reached the disk when k calls had returned: a write whose call is done or
+-- the next one, a discard that was done
+abbrev pub MayCount : Operation → ℕ → HistoryEntry → Type 0
+MayCount Writing k e = (e.at ≤ k + 1) × ((e.reply ≡ Done) ⊎ (e.reply ≡ Fault))
+MayCount Discarding k e = (e.at ≤ k) × (e.reply ≡ Done)
+MayCount operation k e = ⊥
+
+-- what the request of entry e, which stands after the flush, may have put into sector i
+abbrev pub Puts : ℕ → ℕ → List ℕ → HistoryEntry → Type 0
+Puts k i value e =
+    MayCount (operation_of e.what) k e
+    × Covers e.what i
+    × IsSomeAnd (put_by e.what) (λ put. value ≡ put i)
 
 -- one of these entries does, and is in range
 abbrev pub SomePuts : ℕ → ℕ → ℕ → List ℕ → List HistoryEntry → Type 0
 SomePuts sectors k i value [] = ⊥
 SomePuts sectors k i value (e ∷ later) =
-    ((ends_past sectors e.what ≡ false) × Puts k i value e e.what)
-    ⊎ SomePuts sectors k i value later
+    ((ends_past sectors e.what ≡ false) × Puts k i value e) ⊎ SomePuts sectors k i value later
 
 -- what sector i may hold where k calls had returned and the next may be under way: its value at the
 -- flush, or what a later entry puts there

@@ -54,16 +54,16 @@ abbrev pub named_zones : Tables → List ℕ
 named_zones t = flat_map zones_of t.entries
 
 -- the entry names this zone
-abbrev pub Names : MapEntry → ℕ → Type 0
-Names e z = (e.zone ≡ Some z) ⊎ (e.buffer ≡ Some z)
+abbrev pub NamesZone : MapEntry → ℕ → Type 0
+NamesZone e z = (e.zone ≡ Some z) ⊎ (e.buffer ≡ Some z)
 
 -- the zones named are data zones, each named by one chunk; a buffer is conventional, and stands
 -- beside a sequential zone
 pub record MapFollowsRules (g : Shape) (l : Layout) (entries : List MapEntry) : Type 0 where
-  pub data_zones : (c z : ℕ) → Names (entry_in_map entries c) z →
+  pub data_zones : (c z : ℕ) → NamesZone (entry_in_map entries c) z →
       (first_data_zone g l ≤ z) × (z < zone_count g)
   pub named_once : (c d z : ℕ) →
-      Names (entry_in_map entries c) z → Names (entry_in_map entries d) z → c ≡ d
+      NamesZone (entry_in_map entries c) z → NamesZone (entry_in_map entries d) z → c ≡ d
   pub buffers : (c b : ℕ) → (entry_in_map entries c).buffer ≡ Some b →
       (b < g.conv) × IsSomeAnd (entry_in_map entries c).zone (λ z. g.conv ≤ z)
 
@@ -71,7 +71,7 @@ pub record MapFollowsRules (g : Shape) (l : Layout) (entries : List MapEntry) : 
 -- a chunk's two zones alone; pointer z is the number of sectors below the pointer of zone z
 pub record BitsFollowRules (g : Shape) (pointer : ℕ → ℕ) (t : Tables) : Type 0 where
   pub named : (z x : ℕ) → z < zone_count g → x < g.zone_blocks → IsTrue (is_valid t z x) →
-      (c : ℕ) × Names (entry_of t c) z
+      (c : ℕ) × NamesZone (entry_of t c) z
   pub below : (z x : ℕ) → g.conv ≤ z → z < zone_count g → x < g.zone_blocks →
       IsTrue (is_valid t z x) → 8 * x + 8 ≤ pointer z
   pub one_place : (c z b x : ℕ) →

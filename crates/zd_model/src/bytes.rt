@@ -98,6 +98,14 @@ impl Bytes {
         self.bytes.resize(len, 0).unwrap();
     }
 
+    /// Drops all bytes and keeps their room.
+    pub fn clear(&mut self)
+        ensures empty { self.new.items ≡ [] }
+        ensures room { self.new.room ≡ self.old.room + length self.old.items }
+    {
+        self.bytes.clear();
+    }
+
     /// All bytes.
     pub fn bytes(&self) -> &[u8]
         ensures { result.now ≡ self.now.items }

@@ -5,6 +5,7 @@ ghost use Rattle.zd_model.specs.Laws.{OneRecordHasOneBlock};
 ghost use Rattle.zd_model.specs.Laws.{OneBlockHasOneRecord, DecodesToItsRecord, PatternsAreSectors};
 ghost use Rattle.zd_model.specs.Laws.{ArraysStaySectors, LegalHistoriesAreReported};
 ghost use Rattle.zd_model.specs.Laws.{HistoriesPartAtTheLastFlush};
+ghost use Rattle.zd_model.specs.Laws.{TouchedBlocksHaveASector};
 ghost use Rattle.zd_model.specs.Laws.{PiecesCutARequest, OneScriptHasOnePlan, OneTextHasOneRefusal};
 ghost use Rattle.zd_model.specs.Laws.{OneOutputHasOneHistory, OneReportHasOneHistory};
 ghost use Rattle.zd_model.specs.Laws.{AReportIsAnOutput, AnOutcomeTellsItsStatus};
@@ -21,9 +22,10 @@ pub fn super_block_laws()
     ensures decoded { DecodesToItsRecord }
 {}
 
-/// Requests are cut at the bounds of chunks and keep an array of sectors; a history can be
-/// reported, and is parted at its last flush.
+/// Requests touch the blocks of their sectors, are cut at the bounds of chunks and keep an array of
+/// sectors; a history can be reported, and is parted at its last flush.
 pub fn request_laws()
+    ensures blocks { TouchedBlocksHaveASector }
     ensures pieces { PiecesCutARequest }
     ensures pattern { PatternsAreSectors }
     ensures array { ArraysStaySectors }

@@ -6,7 +6,7 @@ use zd_base::{ChunkNo, ZoneNo};
 /// Why a line is no line of a script. The first that holds is told.
 #[derive(Clone, Copy, Debug, PartialEq, Eq)]
 pub enum BadLine {
-    /// It has none of the four forms.
+    /// It has none of the six forms.
     Form,
     /// A number is out of its bounds.
     Number,

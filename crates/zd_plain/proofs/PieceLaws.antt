@@ -7,21 +7,13 @@ use Rattle.zd_model.specs.Plain.{ends_past}
 use Rattle.zd_model.specs.declared.requests.Request.{Request}
 use Rattle.zd_model.specs.declared.requests.Piece.{Piece}
 use Rattle.zd_model.specs.declared.requests.What.{What}
-use Rattle.zd_model.specs.declared.requests.What.TheVariants.{Read, Write, Discard, Flush}
+use Rattle.zd_model.proofs.CutLaws.{parts_within}
 use Rattle.zd_plain.specs.Cuts.{piece_at}
 
 -- the numbers of a run beside what is made of them
 numbered : {X Y : Type 0} (f : ℕ → X) (h : ℕ × X → Y) (k n : ℕ) → map h (enumerate_from k (map f (range_with_len k n))) ≡ map (λ i. h (i, f i)) (range_with_len k n)
 numbered f h k zero = refl
 numbered f h k (suc n) = ap (λ ys. h (k, f k) ∷ ys) (numbered f h (k + 1) n)
-
-parts_within : (z blocks : ℕ) (what : What) → ends_past (8 * blocks) what ≡ false → parts_of z blocks what ≡ map (part_of z what) (range_with_len 0 (chunks_touched z what))
-parts_within z blocks (Read b n) within = rw within refl
-parts_within z blocks (Write b n s) within = rw within refl
-parts_within z blocks (Discard b n) within = rw within refl
-parts_within z blocks Flush within =
-    let one : chunks_touched z Flush ≡ 1 = omega arith in
-    sym (ap (λ m. map (part_of z Flush) (range_with_len 0 m)) one)
 
 -- the pieces of a request that doesn't end past the device
 pub pieces_within : (z blocks n : ℕ) (r : Request) → ends_past (8 * blocks) r.what ≡ false → map (piece_at z n r) (range_with_len 0 (chunks_touched z r.what)) ≡ pieces_of_request z blocks (n, r)

@@ -1,7 +1,7 @@
 //! What was answered, in order.
 
 ghost use Rattle.std.specs.Prelude.{◌≡◌, ◌+◌, ◌<◌, ◌≤◌, ◌↔◌, ◌++◌, ◌∷◌, [], length, map, slice_get, Some, OnOk, OnErr, IsOk, IsTrue};
-ghost use Rattle.zd_model.specs.Entries.{entry_of};
+ghost use Rattle.zd_model.specs.Entries.{shown_entry};
 
 use std::alloc::Global;
 use std::convert::From;
@@ -20,14 +20,14 @@ pub struct History {
 
 impl Model for History {
     ghost use Rattle.std.specs.Prelude.{◌-◌, map, vec_len, vec_capacity};
-    ghost use Rattle.zd_model.specs.Entries.{entry_of};
+    ghost use Rattle.zd_model.specs.Entries.{shown_entry};
     ghost use Rattle.zd_model.specs.History.{HistoryEntry};
     ghost use Rattle.zd_model.specs.Room.{ListWithRoom};
 
     ghost Value = { ListWithRoom HistoryEntry };
 
     ghost view = { λ h. record {
-      items = map entry_of h.entries.items;
+      items = map shown_entry h.entries.items;
       room = vec_capacity h.entries - vec_len h.entries;
     } };
 }
@@ -45,7 +45,7 @@ impl History {
     /// Appends an entry, without memory where there is room. A refusal leaves the entries as they
     /// were.
     pub fn push(&mut self, item: Entry) -> Result<(), Memory>
-        ensures ok { OnOk result (self.new.items ≡ self.old.items ++ entry_of item ∷ []) }
+        ensures ok { OnOk result (self.new.items ≡ self.old.items ++ shown_entry item ∷ []) }
         ensures err { OnErr result (self.new.items ≡ self.old.items) }
         ensures room { 0 < self.old.room → IsOk result }
         ensures room_left { self.old.room ≤ self.new.room + 1 }
@@ -70,7 +70,7 @@ impl History {
     /// Entry i, counted from 0.
     pub fn get(&self, i: usize) -> &Entry
         requires { i < length self.now.items }
-        ensures { slice_get self.now.items i ≡ Some (entry_of result.now) }
+        ensures { slice_get self.now.items i ≡ Some (shown_entry result.now) }
     {
         &self.entries[i]
     }
@@ -94,7 +94,7 @@ impl History {
 }
 
 impl From<Vec<Entry>> for History {
-    ghost from_gives = { λ entries history. history.items ≡ map entry_of entries.items };
+    ghost from_gives = { λ entries history. history.items ≡ map shown_entry entries.items };
 
     /// The same entries. It takes no memory.
     fn from(entries: Vec<Entry>) -> History {
@@ -103,7 +103,7 @@ impl From<Vec<Entry>> for History {
 }
 
 impl From<History> for Vec<Entry> {
-    ghost from_gives = { λ history entries. map entry_of entries.items ≡ history.items };
+    ghost from_gives = { λ history entries. map shown_entry entries.items ≡ history.items };
 
     /// The same entries. It takes no memory.
     fn from(history: History) -> Vec<Entry> {

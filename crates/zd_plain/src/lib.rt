@@ -12,7 +12,7 @@ mod words;
 pub use cut::pieces;
 pub use history::History;
 pub use plan::Plan;
-pub use what::{at_blocks, block_count, ends_past, first_block};
+pub use what::{at_sectors, ends_past, first_sector, sector_count};
 pub use words::pattern;
 pub use zd_base::{Memory, Why};
 pub use zd_model::{Bytes, Ending, Entry, Piece, Reply, Request, What};

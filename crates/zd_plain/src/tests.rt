@@ -3,8 +3,8 @@
 ghost use Rattle.std.specs.Prelude.{◌≡◌};
 
 use crate::{
-    Bytes, Entry, History, Piece, Plan, Reply, Request, What, at_blocks, block_count, ends_past,
-    first_block, pattern, pieces,
+    Bytes, Entry, History, Piece, Plan, Reply, Request, What, at_sectors, ends_past, first_sector,
+    pattern, pieces, sector_count,
 };
 use std::test::Fail;
 
@@ -12,6 +12,22 @@ fn read(block: u64, count: u32) -> What
     ensures { result ≡ What.Read block count }
 {
     What::Read { block, count }
+}
+
+fn read_sectors(sector: u64, count: u32) -> What
+    ensures { result ≡ What.ReadSectors sector count }
+{
+    What::ReadSectors { sector, count }
+}
+
+fn write_sectors(sector: u64, count: u32) -> What
+    ensures { result ≡ What.WriteSectors sector count 4 }
+{
+    What::WriteSectors {
+        sector,
+        count,
+        seed: 4,
+    }
 }
 
 fn piece(request: u32, piece: u32, what: What, range: bool) -> Piece {
@@ -43,10 +59,42 @@ fn cuts_at_the_bounds_of_chunks(rt: HostRuntime) -> Result<(), Fail> {
     ]?;
     let cut = pieces(rt.alloc(), &Plan::from(requests), 16, 128)?;
     let wanted = [
-        piece(1, 0, at_blocks(write, 14, 2), false),
-        piece(1, 1, at_blocks(write, 16, 2), false),
+        piece(1, 0, at_sectors(write, 112, 16), false),
+        piece(1, 1, at_sectors(write, 128, 16), false),
         piece(2, 0, read(14, 2), false),
         piece(2, 1, read(16, 2), false),
+    ];
+    assert_eq!(rt; cut.as_slice(), wanted.as_slice());
+    Ok(())
+}
+
+#[test]
+fn cuts_sectors_at_the_bounds_of_chunks(rt: HostRuntime) -> Result<(), Fail> {
+    let requests = vec![in rt.alloc();
+        Request {
+            caller: 0,
+            what: write_sectors(127, 2)
+        },
+        Request {
+            caller: 0,
+            what: write_sectors(120, 8)
+        },
+        Request {
+            caller: 0,
+            what: read_sectors(1023, 1)
+        },
+        Request {
+            caller: 0,
+            what: read_sectors(1023, 2)
+        },
+    ]?;
+    let cut = pieces(rt.alloc(), &Plan::from(requests), 16, 128)?;
+    let wanted = [
+        piece(1, 0, write_sectors(127, 1), false),
+        piece(1, 1, write_sectors(128, 1), false),
+        piece(2, 0, write_sectors(120, 8), false),
+        piece(3, 0, read_sectors(1023, 1), false),
+        piece(4, 0, read_sectors(1023, 2), true),
     ];
     assert_eq!(rt; cut.as_slice(), wanted.as_slice());
     Ok(())
@@ -65,6 +113,10 @@ fn keeps_whole_what_ends_past_the_device(rt: HostRuntime) -> Result<(), Fail> {
         },
         Request {
             caller: 0,
+            what: read_sectors(u64::MAX, u32::MAX)
+        },
+        Request {
+            caller: 0,
             what: What::Flush
         },
     ]?;
@@ -72,7 +124,8 @@ fn keeps_whole_what_ends_past_the_device(rt: HostRuntime) -> Result<(), Fail> {
     let wanted = [
         piece(1, 0, read(127, 2), true),
         piece(2, 0, read(u64::MAX, 1), true),
-        piece(3, 0, What::Flush, false),
+        piece(3, 0, read_sectors(u64::MAX, u32::MAX), true),
+        piece(4, 0, What::Flush, false),
     ];
     assert_eq!(rt; cut.as_slice(), wanted.as_slice());
     Ok(())
@@ -92,12 +145,30 @@ fn reads_what_a_request_asks_for(rt: HostRuntime) {
         count: 2,
         seed: 9,
     };
-    assert_eq!(rt; first_block(write), 126);
-    assert_eq!(rt; block_count(write), 2);
+    assert_eq!(rt; first_sector(write), 1008);
+    assert_eq!(rt; sector_count(write), 16);
     assert!(rt; !ends_past(write, 128));
     assert!(rt; ends_past(write, 127));
     assert!(rt; ends_past(read(u64::MAX, 1), u64::MAX));
+    assert!(rt; ends_past(read_sectors(u64::MAX, 1), 1 << 60));
     assert!(rt; !ends_past(What::Flush, 0));
+}
+
+#[test]
+fn pieces_cover_blocks(rt: HostRuntime) {
+    let covers = [
+        (read(9, 3), (9, 3)),
+        (read(u64::MAX, u32::MAX), (u64::MAX, u32::MAX)),
+        (read_sectors(8, 8), (1, 1)),
+        (read_sectors(7, 1), (0, 1)),
+        (read_sectors(7, 2), (0, 2)),
+        (write_sectors(7, 10), (0, 3)),
+        (write_sectors(u64::MAX, u32::MAX), (u64::MAX / 8, 536_870_913)),
+        (What::Flush, (0, 0)),
+    ];
+    for (what, cover) in covers {
+        assert_eq!(rt; piece(1, 0, what, false).cover(), cover, "of {what:?}");
+    }
 }
 
 #[test]
@@ -136,8 +207,13 @@ fn bytes_grow_and_are_written(rt: HostRuntime) -> Result<(), Fail> {
     assert_eq!(rt; bytes.len(), 4);
     assert_eq!(rt; *bytes.get(0), 7);
     assert_eq!(rt; bytes.bytes(), [7, 5, 5, 0].as_slice());
+    let room = bytes.room();
+    bytes.clear();
+    assert!(rt; bytes.is_empty());
+    assert_eq!(rt; bytes.room(), room + 4);
+    bytes.push(9)?;
     let inner: Vec<u8> = bytes.into();
-    assert_eq!(rt; Bytes::from(inner).len(), 4);
+    assert_eq!(rt; Bytes::from(inner).len(), 1);
     Ok(())
 }
 

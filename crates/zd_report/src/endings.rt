@@ -2,7 +2,7 @@
 
 ghost use Rattle.std.specs.Prelude.{◌≡◌, ◌++◌, OnOk, string_bytes};
 ghost use Rattle.zd_model.specs.Report.{ending_text, outcome_text, why_text};
-ghost use Rattle.zd_report.specs.Fixed.{IsFixed};
+ghost use Rattle.zd_report.specs.Fixed.{IsFixedLine};
 
 use crate::numbers::{add_field, add_number};
 use std::alloc::AllocError;
@@ -24,7 +24,7 @@ pub fn ending_line(ending: Ending) -> &'static str
 /// The last line of a run's output, with its line feed, where it tells no line of a script, no chunk and no
 /// block. It takes no memory.
 pub fn fixed_line(outcome: &Outcome) -> &'static str
-    requires { IsFixed outcome.now }
+    requires { IsFixedLine outcome.now }
     ensures { result.now ≡ outcome_text outcome.now }
 {
     match outcome {

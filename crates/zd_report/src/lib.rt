@@ -13,4 +13,4 @@ mod rows;
 mod tests;
 
 pub use endings::{ending_line, fixed_line};
-pub use reports::{lines, output_text, text};
+pub use reports::{output_text, text};

@@ -2,7 +2,7 @@
 
 ghost use Rattle.std.specs.Prelude.{◌≡◌, ◌++◌, IfOk, flat_map};
 ghost use Rattle.std.specs.List.{AllByRecursion};
-ghost use Rattle.zd_model.specs.Report.{IsReported, entry_text, output, report};
+ghost use Rattle.zd_model.specs.Report.{IsReported, entry_text, report, run_output};
 ghost use Rattle.zd_report.specs.Told.{TellsOnly};
 
 use crate::ending_line;
@@ -23,15 +23,6 @@ fn with_last(alloc: Global, history: &History, last: &str) -> Result<Vec<u8>, Al
     Ok(text.into_bytes())
 }
 
-/// The lines of the entries in their order, without a last line.
-///
-/// `Memory` where none is found for them.
-pub fn lines(alloc: Global, history: &History) -> Result<Vec<u8>, Memory>
-    ensures { IfOk result (λ v. v.items ≡ flat_map entry_text history.now.items) }
-{
-    with_last(alloc, history, "").map_err(|_| Memory)
-}
-
 /// The report of a history and its ending. It tells both: each `Got` stands with a read and has the
 /// bytes of its sectors, and no other such history has the same report, nor another ending.
 ///
@@ -46,9 +37,9 @@ pub fn text(alloc: Global, history: &History, ending: &Ending) -> Result<Vec<u8>
 }
 
 /// The lines of the entries, and that of the outcome.
-#[tactic(auto, unfolding(zd_model::specs::Report::output))]
+#[tactic(auto, unfolding(zd_model::specs::Report::run_output))]
 fn with_outcome(alloc: Global, history: &History, outcome: &Outcome) -> Result<Vec<u8>, AllocError>
-    ensures { IfOk result (λ v. v.items ≡ output history.now.items outcome.now) }
+    ensures { IfOk result (λ v. v.items ≡ run_output history.now.items outcome.now) }
 {
     let mut text = String::new(alloc);
     add_lines(&mut text, history)?;
@@ -61,7 +52,7 @@ fn with_outcome(alloc: Global, history: &History, outcome: &Outcome) -> Result<V
 ///
 /// `Memory` where none is found for it.
 pub fn output_text(alloc: Global, history: &History, outcome: &Outcome) -> Result<Vec<u8>, Memory>
-    ensures { IfOk result (λ v. v.items ≡ output history.now.items outcome.now) }
+    ensures { IfOk result (λ v. v.items ≡ run_output history.now.items outcome.now) }
 {
     with_outcome(alloc, history, outcome).map_err(|_| Memory)
 }

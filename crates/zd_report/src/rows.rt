@@ -82,15 +82,15 @@ fn kind_of<'a>(number: u64, sector: &'a [u8]) -> Kind<'a>
     Kind::Other(sector)
 }
 
-/// The kind of sector i of the bytes that were read from a block on.
+/// The kind of sector i of the bytes that were read from a sector on.
 ///
 /// Patterns are the same again after 2^26 sectors, so the number may wrap.
-fn kind_at<'a>(block: u64, i: usize, bytes: &'a [u8]) -> Kind<'a>
+fn kind_at<'a>(first: u128, i: usize, bytes: &'a [u8]) -> Kind<'a>
     requires { 512 * i + 512 ≤ length bytes.now }
     ensures { row_with result 1
-        ≡ row_of (8 * block + i, slice_range bytes.now (512 * i) (512 * i + 512)) }
+        ≡ row_of (first + i, slice_range bytes.now (512 * i) (512 * i + 512)) }
 {
-    let number = block.wrapping_mul(8).wrapping_add(i as u64);
+    let number = ((first % (1 << 64)) as u64).wrapping_add(i as u64);
     kind_of(number, &bytes[SECTOR * i..SECTOR * i + SECTOR])
 }
 
@@ -149,21 +149,21 @@ fn row_after<'a>(text: &mut String, row: Row<'a>, next: Kind<'a>) -> Result<Row<
     })
 }
 
-/// Appends the items of the bytes that were read from a block on, in whole sectors.
-pub fn add_items(text: &mut String, block: u64, bytes: &[u8]) -> Result<(), AllocError>
+/// Appends the items of the bytes that were read from a sector on, in whole sectors.
+pub fn add_items(text: &mut String, first: u128, bytes: &[u8]) -> Result<(), AllocError>
     ensures { OnOk result (string_bytes text.new
-        ≡ string_bytes text.old ++ items_text block bytes.now) }
+        ≡ string_bytes text.old ++ items_text first bytes.now) }
 {
     let sectors = bytes.len() / SECTOR;
     if sectors == 0 {
         return Ok(());
     }
     let mut row = Row {
-        kind: kind_at(block, 0, bytes),
+        kind: kind_at(first, 0, bytes),
         count: 1,
     };
     for i in 1..sectors {
-        row = row_after(text, row, kind_at(block, i, bytes))?;
+        row = row_after(text, row, kind_at(first, i, bytes))?;
     }
     add_row(text, row)
 }

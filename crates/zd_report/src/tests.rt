@@ -3,10 +3,10 @@
 
 ghost use Rattle.std.specs.Prelude.{◌≡◌, IfOk};
 ghost use Rattle.std.specs.List.{AllByRecursion};
-ghost use Rattle.zd_model.specs.Entries.{answer_of, entry_of};
+ghost use Rattle.zd_model.specs.Entries.{answer_of, shown_entry};
 ghost use Rattle.zd_model.specs.Report.{HasReply, IsReported};
 
-use crate::{ending_line, fixed_line, lines, output_text, text};
+use crate::{ending_line, fixed_line, output_text, text};
 use std::alloc::{AllocError, Global};
 use std::test::Fail;
 use zd_base::{BLOCK, ChunkNo, Memory, SECTOR, Why, ZoneNo};
@@ -84,7 +84,7 @@ fn bytes_of(alloc: Global, block: u32, rows: &[(Fill, u64)]) -> Result<Vec<u8>, 
 /// An entry of caller 0.
 fn entry(request: u32, piece: u32, what: What, reply: Reply, at: u64) -> Entry
     requires { HasReply what (answer_of reply) }
-    ensures { IsReported (entry_of result) }
+    ensures { IsReported (shown_entry result) }
 {
     Entry {
         caller: 0,
@@ -104,7 +104,7 @@ fn got(
     bytes: &[u8],
     at: u64,
 ) -> Result<Entry, Memory>
-    ensures { IfOk result (λ e. IsReported (entry_of e)) }
+    ensures { IfOk result (λ e. IsReported (shown_entry e)) }
 {
     let Ok(count) = u32::try_from(bytes.len() / BLOCK) else {
         return Err(Memory);
@@ -123,6 +123,30 @@ fn got(
     Ok(entry(numbers.0, numbers.1, what, reply, at))
 }
 
+/// The entry of a request of sectors that got these bytes, in whole sectors.
+fn got_sectors(
+    alloc: Global,
+    request: u32,
+    sector: u64,
+    bytes: &[u8],
+    at: u64,
+) -> Result<Entry, Memory>
+    ensures { IfOk result (λ e. IsReported (shown_entry e)) }
+{
+    let Ok(count) = u32::try_from(bytes.len() / SECTOR) else {
+        return Err(Memory);
+    };
+    if bytes.len() != SECTOR * count as usize {
+        return Err(Memory);
+    }
+    let Ok(copy) = Vec::from_slice(alloc, bytes) else {
+        return Err(Memory);
+    };
+    let what = What::ReadSectors { sector, count };
+    let reply = Reply::Got(Bytes::from(copy));
+    Ok(entry(request, 0, what, reply, at))
+}
+
 /// The entry of a read that got rows of sectors.
 fn read(
     alloc: Global,
@@ -131,7 +155,7 @@ fn read(
     rows: &[(Fill, u64)],
     at: u64,
 ) -> Result<Entry, Memory>
-    ensures { IfOk result (λ e. IsReported (entry_of e)) }
+    ensures { IfOk result (λ e. IsReported (shown_entry e)) }
 {
     let bytes = bytes_of(alloc, block, rows).map_err(|_| Memory)?;
     got(alloc, numbers, block, &bytes, at)
@@ -140,7 +164,7 @@ fn read(
 /// One entry more.
 fn add(history: &mut History, item: Entry) -> Result<(), Memory>
     requires before { AllByRecursion IsReported history.old.items }
-    requires item { IsReported (entry_of item) }
+    requires item { IsReported (shown_entry item) }
     ensures { AllByRecursion IsReported history.new.items }
 {
     history.push(item)
@@ -258,8 +282,41 @@ fn tells_faults(rt: HostRuntime) -> Result<(), Fail> {
     )?;
     add(&mut history, entry(4, 0, What::Flush, Reply::Done, 20))?;
     let wanted = "0 1 0 w 0 1 1 done @1\n0 2 0 r 0 1 fault @1\n0 3 0 r 0 1 data p1x8 @1\n\
-        0 4 0 f done @20\n";
-    assert_eq!(rt; lines(alloc, &history)?.as_slice(), wanted.as_bytes());
+        0 4 0 f done @20\nend 0 ok\n";
+    assert_eq!(rt;
+        text(alloc, &history, &Ending::Ok)?.as_slice(),
+        wanted.as_bytes()
+    );
+    Ok(())
+}
+
+#[test]
+fn tells_sectors(rt: HostRuntime) -> Result<(), Fail> {
+    let alloc = rt.alloc();
+    let mut history = History::new(alloc);
+    let mut bytes = Vec::new(alloc);
+    for number in 3..5 {
+        bytes.extend_from_slice(&sector_of(Fill::Seed(5), number))?;
+    }
+    let write = What::WriteSectors {
+        sector: 3,
+        count: 2,
+        seed: 5,
+    };
+    let past = What::ReadSectors {
+        sector: u64::MAX,
+        count: 2,
+    };
+    add(&mut history, entry(1, 0, write, Reply::Done, 1))?;
+    add(&mut history, got_sectors(alloc, 2, 3, &bytes, 1)?)?;
+    add(&mut history, got_sectors(alloc, 3, 4, &bytes[512..], 1)?)?;
+    add(&mut history, entry(4, 0, past, Reply::Range, 1))?;
+    let wanted = "0 1 0 ws 3 2 5 done @1\n0 2 0 rs 3 2 data p5x2 @1\n\
+        0 3 0 rs 4 1 data p5x1 @1\n0 4 0 rs 18446744073709551615 2 range @1\nend 0 ok\n";
+    assert_eq!(rt;
+        text(alloc, &history, &Ending::Ok)?.as_slice(),
+        wanted.as_bytes()
+    );
     Ok(())
 }
 

@@ -1,7 +1,7 @@
 -- What was read of a source so far, its end, and too much.
 use Rattle.std.proofs.Common.{◌≡◌, ℕ, ◌≤◌, List, [], ◌++◌, length, Option, Some, refl, sym, ap, ◌∙◌, arith}
 use Rattle.std.proofs.lemmas.List.{append-nil, length-append, nil_from_length}
-use Rattle.zd_model.specs.Script.Refuses.{size}
+use Rattle.zd_model.specs.Script.RefusesScript.{size}
 use Rattle.zd_model.specs.declared.texts.BadLine.TheVariants.{TooLong}
 use Rattle.zd_script.specs.Read.{ReadsAll, ReadsOn, ReadsTooMany}
 

@@ -12,7 +12,7 @@ pub record Spends (limits left : Limits) (what : What) : Type 0 where
   pub discarded : left.discarded + discarded_blocks what ≡ limits.discarded
 
 -- what is left after a plan
-pub record IsLeft (limits : Limits) (plan : List Request) : Type 0 where
+pub record IsLeftOfLimits (limits : Limits) (plan : List Request) : Type 0 where
   pub requests : limits.requests + length plan ≡ 1_000_000
   pub moved : limits.moved + sum_by (λ r. moved_blocks r.what) plan ≡ 32_768
   pub discarded : limits.discarded + sum_by (λ r. discarded_blocks r.what) plan ≡ 4_194_304

@@ -1,7 +1,7 @@
 -- What was read of a source.
 use Rattle.std.specs.Prelude.{◌≡◌, ℕ, ◌+◌, ◌≤◌, Option, Some, List, [], ◌++◌, length}
 use Rattle.zd_disk.specs.Told.{WhereTold}
-use Rattle.zd_model.specs.Script.{Refuses}
+use Rattle.zd_model.specs.Script.{RefusesScript}
 use Rattle.zd_model.specs.declared.texts.BadLine.{BadLine}
 use Rattle.zd_model.specs.declared.texts.BadLine.TheVariants.{TooLong}
 
@@ -22,6 +22,6 @@ pub record ReadsAll (left after : Option (List ℕ)) (all : List ℕ) : Type 0 w
 pub record ReadsTooMany (left after : Option (List ℕ)) (line : ℕ) (why : BadLine) : Type 0 where
   pub whole : line ≡ 0
   pub long : why ≡ TooLong
-  pub refused : WhereTold left (λ bytes. Refuses bytes line why)
+  pub refused : WhereTold left (λ bytes. RefusesScript bytes line why)
   pub stops : WhereTold left (λ bytes.
       WhereTold after (λ rest. length bytes ≡ length rest + 67_108_865))

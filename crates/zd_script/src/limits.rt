@@ -27,9 +27,11 @@ impl Limits {
         ensures some { IfSome result (λ left. Spends self left what) }
         ensures none { IfNone result ((left : Limits) → Spends self left what → ⊥) }
     {
+        let (_, touched) = what.cover();
         let (moved, discarded) = match what {
-            What::Read { count, .. } | What::Write { count, .. } => (count, 0),
-            What::Discard { count, .. } => (0, count),
+            What::Read { .. } | What::Write { .. } => (touched, 0),
+            What::ReadSectors { .. } | What::WriteSectors { .. } => (touched, 0),
+            What::Discard { .. } => (0, touched),
             What::Flush => (0, 0),
         };
         Some(Limits {

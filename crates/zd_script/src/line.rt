@@ -1,9 +1,9 @@
 //! One line of a script, with numbers of any size, and the request that it writes.
 
-ghost use Rattle.std.specs.Prelude.{◌≡◌, ◌≢◌, ◌≤◌, ◌^◌, ◌++◌, List, ℕ};
+ghost use Rattle.std.specs.Prelude.{◌≡◌, ◌≢◌, ◌≤◌, ◌^◌, ◌++◌, ◌∷◌, List, ℕ, length};
 ghost use Rattle.std.specs.Prelude.{IfErr, IfNone, IfOk, IfSome};
-ghost use Rattle.zd_model.specs.Script.{HasNumbers, line_text};
-ghost use Rattle.zd_script.specs.Line.{HasBounds, IsRight, IsWrong, asks_of, line_of};
+ghost use Rattle.zd_model.specs.Script.{HasNumbers, letters_of, line_text};
+ghost use Rattle.zd_script.specs.Line.{HasBounds, IsRightRequest, BreaksRequestRule, asks_of, line_of};
 
 use crate::number::numbers;
 use zd_model::{BadLine, Request, What};
@@ -28,9 +28,18 @@ pub enum Asks {
         count: u128,
     },
     Flush,
+    ReadSectors {
+        sector: u128,
+        count: u128,
+    },
+    WriteSectors {
+        sector: u128,
+        count: u128,
+        seed: u128,
+    },
 }
 
-/// A line of one of the four forms. A number of more than 64 bits is told as 2^64.
+/// A line of one of the six forms. A number of more than 64 bits is told as 2^64.
 #[derive(Clone, Copy)]
 pub struct Line {
     pub caller: u128,
@@ -43,7 +52,20 @@ pub fn first_line(text: &[u8]) -> Option<(Line, &[u8])>
         × (text.now ≡ line_text r ++ found.1.now) × (found.0 ≡ line_of r)) }
     ensures none { IfNone result ((r : Request) (rest : List ℕ) → text.now ≢ line_text r ++ rest) }
 {
-    let (letter, fields) = text.split_first()?;
+    let (letter, behind) = text.split_first()?;
+    match behind.strip_prefix(b"s") {
+        Some(fields) => line_in_sectors(*letter, fields),
+        None => line_in_blocks(*letter, behind),
+    }
+}
+
+/// A line whose form has one letter, this one, and what stands behind it.
+fn line_in_blocks(letter: u8, fields: &[u8]) -> Option<(Line, &[u8])>
+    ensures found { IfSome result (λ found. (r : Request)
+        × (letter ∷ fields.now ≡ line_text r ++ found.1.now) × (found.0 ≡ line_of r)) }
+    ensures none { IfNone result ((r : Request) (rest : List ℕ) →
+        length (letters_of r.what) ≡ 1 → letter ∷ fields.now ≢ line_text r ++ rest) }
+{
     match letter {
         b'r' => {
             let ([caller, block, count], rest) = numbers::<3>(fields)?;
@@ -69,15 +91,41 @@ pub fn first_line(text: &[u8]) -> Option<(Line, &[u8])>
     }
 }
 
-/// A block's number.
-fn block_of(number: u128) -> Option<u64>
-    ensures some { IfSome result (λ block. block ≡ number) }
+/// A line whose form has two letters, this one and an `s`, and what stands behind it.
+fn line_in_sectors(letter: u8, fields: &[u8]) -> Option<(Line, &[u8])>
+    ensures found { IfSome result (λ found. (r : Request)
+        × (letter ∷ 115 ∷ fields.now ≡ line_text r ++ found.1.now) × (found.0 ≡ line_of r)) }
+    ensures none { IfNone result ((r : Request) (rest : List ℕ) →
+        length (letters_of r.what) ≡ 2 → letter ∷ 115 ∷ fields.now ≢ line_text r ++ rest) }
+{
+    match letter {
+        b'r' => {
+            let ([caller, sector, count], rest) = numbers::<3>(fields)?;
+            let asks = Asks::ReadSectors { sector, count };
+            Some((Line { caller, asks }, rest))
+        }
+        b'w' => {
+            let ([caller, sector, count, seed], rest) = numbers::<4>(fields)?;
+            let asks = Asks::WriteSectors {
+                sector,
+                count,
+                seed,
+            };
+            Some((Line { caller, asks }, rest))
+        }
+        _ => None,
+    }
+}
+
+/// A block's or a sector's number.
+fn place_of(number: u128) -> Option<u64>
+    ensures some { IfSome result (λ place. place ≡ number) }
     ensures none { IfNone result (2 ^ 64 ≤ number) }
 {
     u64::try_from(number).ok()
 }
 
-/// How many blocks: at least one.
+/// How many blocks or sectors: at least one.
 fn count_of(number: u128) -> Option<u32>
     ensures some { IfSome result (λ count. (count ≡ number) × (1 ≤ count)) }
     ensures none { IfNone result (1 ≤ number → 2 ^ 32 ≤ number) }
@@ -104,19 +152,32 @@ impl Asks {
     {
         match self {
             Asks::Read { block, count } => Some(What::Read {
-                block: block_of(block)?,
+                block: place_of(block)?,
                 count: count_of(count)?,
             }),
             Asks::Write { block, count, seed } => Some(What::Write {
-                block: block_of(block)?,
+                block: place_of(block)?,
                 count: count_of(count)?,
                 seed: seed_of(seed)?,
             }),
             Asks::Discard { block, count } => Some(What::Discard {
-                block: block_of(block)?,
+                block: place_of(block)?,
                 count: count_of(count)?,
             }),
             Asks::Flush => Some(What::Flush),
+            Asks::ReadSectors { sector, count } => Some(What::ReadSectors {
+                sector: place_of(sector)?,
+                count: count_of(count)?,
+            }),
+            Asks::WriteSectors {
+                sector,
+                count,
+                seed,
+            } => Some(What::WriteSectors {
+                sector: place_of(sector)?,
+                count: count_of(count)?,
+                seed: seed_of(seed)?,
+            }),
         }
     }
 }
@@ -124,8 +185,8 @@ impl Asks {
 impl Line {
     /// The request of a line; `Number` comes before `Caller`.
     pub fn request(self) -> Result<Request, BadLine>
-        ensures ok { IfOk result (λ r. IsRight r × (self ≡ line_of r)) }
-        ensures err { IfErr result (λ why. (r : Request) → self ≡ line_of r → IsWrong r why) }
+        ensures ok { IfOk result (λ r. IsRightRequest r × (self ≡ line_of r)) }
+        ensures err { IfErr result (λ why. (r : Request) → self ≡ line_of r → BreaksRequestRule r why) }
     {
         let Some(what) = self.asks.what() else {
             return Err(BadLine::Number);

@@ -1,10 +1,10 @@
 //! The plan that a script writes.
 
 ghost use Rattle.std.specs.Prelude.{◌≡◌, ◌≢◌, ◌++◌, [], List, IfErr, IfOk};
-ghost use Rattle.zd_model.specs.Script.{BreaksRule, IsScript, Refuses, line_text};
+ghost use Rattle.zd_model.specs.Script.{BreaksLineRule, IsScript, RefusesScript, line_text};
 ghost use Rattle.zd_script.specs.Fault.{IfBad};
-ghost use Rattle.zd_script.specs.Limits.{IsLeft, Spends};
-ghost use Rattle.zd_script.specs.Line.{IsRight};
+ghost use Rattle.zd_script.specs.Limits.{IsLeftOfLimits, Spends};
+ghost use Rattle.zd_script.specs.Line.{IsRightRequest};
 
 use crate::ScriptFault;
 use crate::limits::Limits;
@@ -18,10 +18,10 @@ use zd_plain::Plan;
 /// or the first rule that the line in front breaks.
 fn next(text: &[u8], limits: Limits) -> Result<(Request, &[u8], Limits), BadLine>
     ensures line { IfOk result (λ next. text.now ≡ line_text next.0 ++ next.1.now) }
-    ensures right { IfOk result (λ next. IsRight next.0) }
+    ensures right { IfOk result (λ next. IsRightRequest next.0) }
     ensures spends { IfOk result (λ next. Spends limits next.2 next.0.what) }
     ensures err { IfErr result (λ why. (plan : List Request) →
-        IsLeft limits plan → text.now ≢ [] → BreaksRule plan text.now why) }
+        IsLeftOfLimits limits plan → text.now ≢ [] → BreaksLineRule plan text.now why) }
 {
     let Some((line, rest)) = first_line(text) else {
         return Err(BadLine::Form);
@@ -37,7 +37,7 @@ fn next(text: &[u8], limits: Limits) -> Result<(Request, &[u8], Limits), BadLine
 /// in the first line that breaks a rule, by the first rule that it breaks.
 pub fn parse(alloc: Global, bytes: &[u8]) -> Result<Plan, ScriptFault>
     ensures ok { IfOk result (λ plan. IsScript bytes.now plan) }
-    ensures bad { IfBad result (λ line why. Refuses bytes.now line why) }
+    ensures bad { IfBad result (λ line why. RefusesScript bytes.now line why) }
     ensures source { result ≢ Err ScriptFault.Source }
 {
     if bytes.len() > MOST_BYTES {

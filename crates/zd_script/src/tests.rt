@@ -6,7 +6,7 @@ use std::test::Fail;
 use zd_ports::{MemSource, Source};
 
 const ONE_OF_EACH: &[u8] =
-    b"r 0 18446744073709551615 1\nw 63 5 32767 4294967295\nd 10 0 4194304\nf 7\n";
+    b"r 0 18446744073709551615 1\nw 63 5 32763 4294967295\nd 10 0 4194304\nf 7\nrs 1 5 4\nws 2 15 2 8\n";
 
 /// Scripts at the edges of the rules, and how many requests they have.
 const ACCEPTED: &[(&[u8], usize)] = &[
@@ -22,6 +22,13 @@ const ACCEPTED: &[(&[u8], usize)] = &[
     (b"r 0 0 32767\nw 0 0 1 1\n", 2),
     (b"d 0 0 4194303\nd 0 0 1\n", 2),
     (b"r 0 0 32768\nd 0 0 4194304\nf 0\n", 3),
+    (b"rs 0 18446744073709551615 1\n", 1),
+    (b"ws 63 18446744073709551615 1 4294967295\n", 1),
+    (b"rs 0 0 262144\n", 1),
+    (b"rs 0 7 262137\n", 1),
+    (b"ws 0 7 262137 1\n", 1),
+    (b"rs 0 7 2\nr 0 0 32766\n", 2),
+    (b"rs 0 8 8\nws 0 3 1 1\nr 0 0 32766\n", 3),
 ];
 
 /// Bytes that are no script, the line that is refused, and why.
@@ -114,6 +121,49 @@ const REFUSED: &[(&[u8], u32, BadLine)] = &[
     (b"r 0 0 32768\nw 0 0 1 1\n", 2, BadLine::TooLong),
     (b"d 0 0 4194304\nd 0 0 1\n", 2, BadLine::TooLong),
     (b"r 0 0 32768\nd 0 0 4194305\n", 2, BadLine::TooLong),
+    (b"rs\n", 1, BadLine::Form),
+    (b"rs 0 0\n", 1, BadLine::Form),
+    (b"rs 0 0 1", 1, BadLine::Form),
+    (b"rs 0 0 1 1\n", 1, BadLine::Form),
+    (b"rs 0 00 1\n", 1, BadLine::Form),
+    (b"rs  0 0 1\n", 1, BadLine::Form),
+    (b"r s 0 0 1\n", 1, BadLine::Form),
+    (b"rss 0 0 1\n", 1, BadLine::Form),
+    (b"sr 0 0 1\n", 1, BadLine::Form),
+    (b"rw 0 0 1\n", 1, BadLine::Form),
+    (b"Rs 0 0 1\n", 1, BadLine::Form),
+    (b"rS 0 0 1\n", 1, BadLine::Form),
+    (b"rs0 0 1\n", 1, BadLine::Form),
+    (b"s 0 0 1\n", 1, BadLine::Form),
+    (b"ws\n", 1, BadLine::Form),
+    (b"ws 0 0 1\n", 1, BadLine::Form),
+    (b"ws 0 0 1 1", 1, BadLine::Form),
+    (b"ws 0 0 1 1 1\n", 1, BadLine::Form),
+    (b"ws 0 0 01 1\n", 1, BadLine::Form),
+    (b"ds 0 0 1\n", 1, BadLine::Form),
+    (b"fs 0\n", 1, BadLine::Form),
+    (b"rs 0 0 0\n", 1, BadLine::Number),
+    (b"ws 0 0 0 1\n", 1, BadLine::Number),
+    (b"rs 0 0 4294967296\n", 1, BadLine::Number),
+    (b"ws 0 0 4294967296 1\n", 1, BadLine::Number),
+    (b"ws 0 0 1 4294967296\n", 1, BadLine::Number),
+    (b"rs 0 18446744073709551616 1\n", 1, BadLine::Number),
+    (b"ws 0 18446744073709551616 1 1\n", 1, BadLine::Number),
+    (b"rs 64 0 0\n", 1, BadLine::Number),
+    (b"rs 64 0 1\n", 1, BadLine::Caller),
+    (b"ws 64 0 1 1\n", 1, BadLine::Caller),
+    (b"rs 64 0 262145\n", 1, BadLine::Caller),
+    (b"rs 0 0 262145\n", 1, BadLine::TooLong),
+    (b"rs 0 7 262138\n", 1, BadLine::TooLong),
+    (b"ws 0 7 262138 1\n", 1, BadLine::TooLong),
+    (
+        b"rs 0 18446744073709551615 4294967295\n",
+        1,
+        BadLine::TooLong,
+    ),
+    (b"ws 0 0 4294967295 1\n", 1, BadLine::TooLong),
+    (b"r 0 0 32767\nrs 0 7 2\n", 2, BadLine::TooLong),
+    (b"r 0 0 32768\nws 0 7 1 1\n", 2, BadLine::TooLong),
 ];
 
 const HUNDRED_DIGITS: &[u8] =
@@ -129,6 +179,13 @@ const AROUND_HUNDRED_DIGITS: &[(&[u8], &[u8], BadLine)] = &[
     (b"d 0 ", b" 1\n", BadLine::Number),
     (b"d 0 0 ", b"\n", BadLine::Number),
     (b"r ", b" 0 0\n", BadLine::Number),
+    (b"rs 0 ", b" 1\n", BadLine::Number),
+    (b"rs 0 0 ", b"\n", BadLine::Number),
+    (b"ws 0 ", b" 1 1\n", BadLine::Number),
+    (b"ws 0 0 ", b" 1\n", BadLine::Number),
+    (b"ws 0 0 1 ", b"\n", BadLine::Number),
+    (b"rs ", b" 0 1\n", BadLine::Caller),
+    (b"ws ", b" 0 1 1\n", BadLine::Caller),
     (b"r ", b" 0 1\n", BadLine::Caller),
     (b"w ", b" 0 1 1\n", BadLine::Caller),
     (b"d ", b" 0 1\n", BadLine::Caller),
@@ -165,7 +222,7 @@ fn lines_are_their_plan(rt: HostRuntime) -> Result<(), Fail> {
             caller: 63,
             what: What::Write {
                 block: 5,
-                count: 32_767,
+                count: 32_763,
                 seed: 4_294_967_295,
             },
         },
@@ -179,6 +236,21 @@ fn lines_are_their_plan(rt: HostRuntime) -> Result<(), Fail> {
         Request {
             caller: 7,
             what: What::Flush,
+        },
+        Request {
+            caller: 1,
+            what: What::ReadSectors {
+                sector: 5,
+                count: 4,
+            },
+        },
+        Request {
+            caller: 2,
+            what: What::WriteSectors {
+                sector: 15,
+                count: 2,
+                seed: 8,
+            },
         },
     ];
     assert_eq!(rt; requests.as_slice(), wanted.as_slice());

@@ -9,3 +9,6 @@ returns-clause-two c = (refl, lit≤ tt, refl, (refl, lit≤ tt, refl, refl))
 
 pub returns-clause-finer : goal.returns-clause-finer
 returns-clause-finer c = (refl, lit≤ tt, refl, (refl, lit≤ tt, refl, refl))
+
+pub returns-clause-sectors : goal.returns-clause-sectors
+returns-clause-sectors c = (refl, lit≤ tt, refl, (refl, lit≤ tt, refl, refl))

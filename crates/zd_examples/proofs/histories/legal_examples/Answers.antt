@@ -28,3 +28,8 @@ returns-clause-discard c = record {
   answers = (inl refl, (inl refl, (inl refl, tt)));
   in_time = (lit≤ tt, (lit≤ tt, tt));
 }
+
+pub returns-clause-sectors : goal.returns-clause-sectors
+unfolding zero_volume zero_sector pattern
+returns-clause-sectors c =
+    record { answers = (inl refl, (inl refl, tt)); in_time = (lit≤ tt, tt) }

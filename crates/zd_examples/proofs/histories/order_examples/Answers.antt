@@ -26,3 +26,7 @@ returns-clause-part c zero = (_, refl)
 returns-clause-part c (suc zero) = (_, refl)
 returns-clause-part c (suc (suc zero)) = (_, refl)
 returns-clause-part c (suc (suc (suc n))) = rw (not_one n, not_two n) ([], refl)
+
+pub returns-clause-past : goal.returns-clause-past
+returns-clause-past c zero = (_, refl)
+returns-clause-past c (suc n) = rw (ne_eqb 0 (suc n) (λ e. omega arith)) ([], refl)

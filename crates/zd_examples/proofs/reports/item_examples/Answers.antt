@@ -28,3 +28,7 @@ returns-clause-digits c = refl
 pub returns-clause-apart : goal.returns-clause-apart
 unfolding report entry_text row_of numeral pattern zero_sector u32_at
 returns-clause-apart c = refl
+
+pub returns-clause-inside : goal.returns-clause-inside
+unfolding report entry_text row_of numeral pattern zero_sector u32_at
+returns-clause-inside c = refl

@@ -28,3 +28,7 @@ returns-clause-discard c = refl
 pub returns-clause-middle : goal.returns-clause-middle
 unfolding report entry_text row_of numeral pattern zero_sector u32_at
 returns-clause-middle c = refl
+
+pub returns-clause-sectors : goal.returns-clause-sectors
+unfolding report entry_text row_of numeral pattern zero_sector u32_at
+returns-clause-sectors c = refl

@@ -1,6 +1,6 @@
 use Rattle.std.proofs.Common.{◌≡◌, ◌≤◌, ℕ, List, length, arith, lit≤}
-use Rattle.zd_model.specs.Script.{Refuses}
-use Rattle.zd_model.specs.Script.Refuses.{size, line}
+use Rattle.zd_model.specs.Script.{RefusesScript}
+use Rattle.zd_model.specs.Script.RefusesScript.{size, line}
 use Rattle.zd_model.specs.declared.texts.BadLine.{BadLine}
 use Rattle.zd_examples.proofs.scripts.limit_examples.Goals as goal
 
@@ -23,7 +23,7 @@ pub returns-clause-bytes_more : goal.returns-clause-bytes_more
 returns-clause-bytes_more c bytes long = size (omega arith)
 
 -- line 0 is the whole text
-no_line : (bytes : List ℕ) (n : ℕ) (why : BadLine) → length bytes ≡ 67108864 → n ≡ 0 → Refuses bytes n why → ⊥
+no_line : (bytes : List ℕ) (n : ℕ) (why : BadLine) → length bytes ≡ 67108864 → n ≡ 0 → RefusesScript bytes n why → ⊥
 no_line bytes n why long none (size more) = omega arith
 no_line bytes n why long none (line plan rest few begins breaks) = omega arith
 
@@ -36,3 +36,9 @@ returns-clause-requests_most c plan long few = record {
   moved = few.moved;
   discarded = few.discarded;
 }
+
+pub returns-clause-sectors : goal.returns-clause-sectors
+returns-clause-sectors c = record { requests = lit≤ tt; moved = lit≤ tt; discarded = lit≤ tt }
+
+pub returns-clause-sectors_more : goal.returns-clause-sectors_more
+returns-clause-sectors_more c h = let all : 32769 ≤ 32768 = h.moved in omega arith

@@ -9,9 +9,9 @@ pub returns-clause-not_yet : goal.returns-clause-not_yet
 returns-clause-not_yet c h = elim h [
   | inl flushed ↦ one_is_zero 0 (sym flushed)
   | inr later ↦ elim later [
-    | inl write ↦ (let far : 8 ≤ 0 = write.1.2.0 in omega arith)
+    | inl write ↦ (let far : 8 ≤ 0 = write.1.1.0 in omega arith)
     | inr others ↦ elim others [
-      | inl discard ↦ (let late : 4 ≤ 3 = discard.1.0 in omega arith)
+      | inl discard ↦ (let late : 4 ≤ 3 = discard.1.0.0 in omega arith)
       | inr none ↦ none
     ]
   ]
@@ -21,7 +21,7 @@ pub returns-clause-failed : goal.returns-clause-failed
 returns-clause-failed c h = elim h [
   | inl flushed ↦ one_is_zero 0 (sym flushed)
   | inr later ↦ elim later [
-    | inl discard ↦ (let done = discard.1.1 in absurd (let f : ⊥ = cc in f))
+    | inl discard ↦ (let done = discard.1.0.1 in absurd (let f : ⊥ = cc in f))
     | inr none ↦ none
   ]
 ]

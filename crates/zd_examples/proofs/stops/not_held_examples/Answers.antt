@@ -6,11 +6,11 @@ pub returns-clause-too_late : goal.returns-clause-too_late
 returns-clause-too_late c h = elim h [
   | inl flushed ↦ two_is_zero flushed
   | inr later ↦ elim later [
-    | inl first ↦ one_is_two (sym first.1.3)
+    | inl first ↦ one_is_two (sym first.1.2)
     | inr others ↦ elim others [
-      | inl flush ↦ flush.1
+      | inl flush ↦ flush.1.0
       | inr last ↦ elim last [
-        | inl second ↦ (let late : 12 ≤ 11 = second.1.0 in omega arith)
+        | inl second ↦ (let late : 12 ≤ 11 = second.1.0.0 in omega arith)
         | inr none ↦ none
       ]
     ]
@@ -20,7 +20,7 @@ returns-clause-too_late c h = elim h [
 pub returns-clause-too_old : goal.returns-clause-too_old
 returns-clause-too_old c h = elim h [
   | inl flushed ↦ one_is_zero 0 (sym flushed)
-  | inr later ↦ elim later [ inl second ↦ two_is_zero (sym second.1.3) | inr none ↦ none ]
+  | inr later ↦ elim later [ inl second ↦ two_is_zero (sym second.1.2) | inr none ↦ none ]
 ]
 
 pub returns-clause-flushed_over : goal.returns-clause-flushed_over
@@ -30,11 +30,11 @@ pub returns-clause-behind : goal.returns-clause-behind
 returns-clause-behind c h = elim h [
   | inl flushed ↦ one_is_zero 8 flushed
   | inr later ↦ elim later [
-    | inl first ↦ (let far : 8 < 8 = first.1.2.1 in omega arith)
+    | inl first ↦ (let far : 8 < 8 = first.1.1.1 in omega arith)
     | inr others ↦ elim others [
-      | inl flush ↦ flush.1
+      | inl flush ↦ flush.1.0
       | inr last ↦ elim last [
-        | inl second ↦ (let far : 8 < 8 = second.1.2.1 in omega arith)
+        | inl second ↦ (let far : 8 < 8 = second.1.1.1 in omega arith)
         | inr none ↦ none
       ]
     ]
@@ -45,11 +45,11 @@ pub returns-clause-other_place : goal.returns-clause-other_place
 returns-clause-other_place c h = elim h [
   | inl flushed ↦ one_is_zero 0 flushed
   | inr later ↦ elim later [
-    | inl first ↦ one_elsewhere first.1.3
+    | inl first ↦ one_elsewhere first.1.2
     | inr others ↦ elim others [
-      | inl flush ↦ flush.1
+      | inl flush ↦ flush.1.0
       | inr last ↦ elim last [
-        | inl second ↦ (let late : 12 ≤ 1 = second.1.0 in omega arith)
+        | inl second ↦ (let late : 12 ≤ 1 = second.1.0.0 in omega arith)
         | inr none ↦ none
       ]
     ]
@@ -66,4 +66,10 @@ returns-clause-past c h = elim h [
       | inr none ↦ none
     ]
   ]
+]
+
+pub returns-clause-beside : goal.returns-clause-beside
+returns-clause-beside c h = elim h [
+  | inl flushed ↦ one_is_zero 5 flushed
+  | inr later ↦ elim later [ inl write ↦ (let far : 5 < 5 = write.1.1.1 in omega arith) | inr none ↦ none ]
 ]

@@ -1,11 +1,15 @@
 use Rattle.zd_model.specs.Bytes.{IsSector}
 use Rattle.zd_model.specs.History.{last_array}
+use Rattle.zd_model.proofs.TouchLaws.{touched}
 use Rattle.zd_model.proofs.CutLaws.{pieces_cut}
 use Rattle.zd_model.proofs.SectorLaws.{each-at, pattern-sector}
 use Rattle.zd_model.proofs.ArrayLaws.{length-last_array}
 use Rattle.zd_model.proofs.ReplyLaws.{answers-reported, each-from, last-sectors}
 use Rattle.zd_model.proofs.StopLaws.{parted}
 use Rattle.zd_model.proofs.laws.request_laws.Goals as goal
+
+pub returns-clause-blocks : goal.returns-clause-blocks
+returns-clause-blocks c = touched
 
 pub returns-clause-pieces : goal.returns-clause-pieces
 returns-clause-pieces c = pieces_cut

@@ -1,6 +1,6 @@
 use Rattle.std.proofs.Common.{◌∷◌, [], sym}
 use Rattle.std.specs.Prelude.{string_bytes}
-use Rattle.zd_model.specs.Entries.{entry_of}
+use Rattle.zd_model.specs.Entries.{shown_entry}
 use Rattle.zd_report.proofs.LineText.{entry_line}
 use Rattle.zd_report.proofs.Ok.{appended}
 use Rattle.zd_report.proofs.entries.add_line.Goals as goal
@@ -19,4 +19,4 @@ returns c =
       c.from.ensures,
       c.from-2.ensures,
       c.from-3.ensures,
-    ) (sym (entry_line (entry_of c.args.entry.now) (string_bytes c.args.text.now))))
+    ) (sym (entry_line (shown_entry c.args.entry.now) (string_bytes c.args.text.now))))

@@ -8,6 +8,6 @@ use Rattle.zd_report.proofs.rows.add_items.Given as goal
 
 abbrev pub invariant-loop-i : goal.invariant-loop-i
 invariant-loop-i l = record {
-  owed : string_bytes l.initial.text ++ items_text l.block l.bytes ≡ string_bytes l.text ++ rows_text (with_first (row_told l.row) (rest_rows l.block l.bytes l.i (l.sectors - l.i)));
+  owed : string_bytes l.initial.text ++ items_text l.first l.bytes ≡ string_bytes l.text ++ rows_text (with_first (row_told l.row) (rest_rows l.first l.bytes l.i (l.sectors - l.i)));
   count : l.row.count ≤ l.i;
 }

@@ -1,4 +1,4 @@
-use Rattle.zd_model.specs.Script.BreaksRule.{form}
+use Rattle.zd_model.specs.Script.BreaksLineRule.{form}
 use Rattle.std.proofs.lemmas.Result.{err_from_is_err_and}
 use Rattle.zd_script.proofs.RequestLaws.{right_stands, wrong_breaks, much_breaks}
 use Rattle.zd_script.proofs.plan.next.Goals as goal

@@ -1,5 +1,5 @@
 use Rattle.std.proofs.Common.{◌≡◌, ◌+◌, length, arith}
-use Rattle.zd_model.specs.Script.Refuses.{size}
+use Rattle.zd_model.specs.Script.RefusesScript.{size}
 use Rattle.zd_script.proofs.PlanLaws.{plan_stands, line_breaks, line_shortens, there_is_more, there_is_none}
 use Rattle.zd_script.proofs.plan.parse.Goals as goal
 
