@@ -163,7 +163,10 @@ fn pieces_cover_blocks(rt: HostRuntime) {
         (read_sectors(7, 1), (0, 1)),
         (read_sectors(7, 2), (0, 2)),
         (write_sectors(7, 10), (0, 3)),
-        (write_sectors(u64::MAX, u32::MAX), (u64::MAX / 8, 536_870_913)),
+        (
+            write_sectors(u64::MAX, u32::MAX),
+            (u64::MAX / 8, 536_870_913),
+        ),
         (What::Flush, (0, 0)),
     ];
     for (what, cover) in covers {

@@ -4,3 +4,4 @@ pub mod LineText
 pub mod Found
 pub mod Ok
 pub mod Told
+pub mod Slices
