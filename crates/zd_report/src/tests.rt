@@ -309,7 +309,8 @@ fn tells_sectors(rt: HostRuntime) -> Result<(), Fail> {
     };
     add(&mut history, entry(1, 0, write, Reply::Done, 1))?;
     add(&mut history, got_sectors(alloc, 2, 3, &bytes, 1)?)?;
-    add(&mut history, got_sectors(alloc, 3, 4, &bytes[512..], 1)?)?;
+    let second = sector_of(Fill::Seed(5), 4);
+    add(&mut history, got_sectors(alloc, 3, 4, &second, 1)?)?;
     add(&mut history, entry(4, 0, past, Reply::Range, 1))?;
     let wanted = "0 1 0 ws 3 2 5 done @1\n0 2 0 rs 3 2 data p5x2 @1\n\
         0 3 0 rs 4 1 data p5x1 @1\n0 4 0 rs 18446744073709551615 2 range @1\nend 0 ok\n";
