@@ -72,8 +72,8 @@ module _ (g : Shape) (some : 0 < g.zone_blocks) (from i : ℕ) (low : from ≤ i
   run_more r more few within =
       let first : count_by (starts_run g from) (range_with_len i 1) ≡ 1 = ap {B = ℕ} (λ (b : Bool). 0 + cond b 1 0) starts in
       let rest = count_none (starts_run g from) (i + 1) (i + r - (i + 1)) (λ k above below.
-          let at : i + (k - i) ≡ k = omega arith in
-          subst (λ (n : ℕ). starts_run g from n ≡ false) at (none_starts (k - i) (omega arith) (omega arith) (omega arith))) in
+      let at : i + (k - i) ≡ k = omega arith in
+      subst (λ (n : ℕ). starts_run g from n ≡ false) at (none_starts (k - i) (omega arith) (omega arith) (omega arith))) in
       let one = count_then (starts_run g from) i (i + 1) (i + r) (omega arith) (omega arith) in
       let single : i + 1 - i ≡ 1 = omega arith in
       let alone = ap (λ (n : ℕ). count_by (starts_run g from) (range_with_len i n)) single in
