@@ -3,7 +3,7 @@
 ghost use Rattle.std.specs.Prelude.{◌≡◌, ◌≤◌, ◌↔◌, Some, None, IsSome, IsOk, IfOk, OnOk, IfSome, IsSomeAnd};
 ghost use Rattle.std.proofs.lemmas.Option.{none-some};
 ghost use Rattle.zd_base.specs.Geometry.{zone_sectors};
-ghost use Rattle.zd_disk.specs.FileDisk.{Asks, CountsFaults, CountsRead, CountsWrite, IsSectorRun};
+ghost use Rattle.zd_disk.specs.FileDisk.{EdgeAsks, CountsFaults, EdgeReads, EdgeWrites, IsSectorRun};
 ghost use Rattle.zd_disk.specs.Told.{IsSequentialZone};
 
 use crate::ZonedDisk;
@@ -95,7 +95,7 @@ impl<F: Read + Write + Seek + OpenFile + Drop> ZonedDisk for FileDisk<F> {
     fn geometry(&mut self) -> Result<Geometry, Failed>
         ensures ok { IsOk result ↔ IsSome self.old.told }
         ensures value { IfOk result (λ g. self.old.told ≡ Some g) }
-        ensures counted { Asks self.old self.new }
+        ensures counted { EdgeAsks self.old self.new }
         ensures faults { CountsFaults self.old.faults self.new.faults result }
     {
         let answer = match &self.image {
@@ -108,7 +108,7 @@ impl<F: Read + Write + Seek + OpenFile + Drop> ZonedDisk for FileDisk<F> {
     fn report(&mut self, zone: ZoneNo) -> Result<u32, Failed>
         ensures ok { OnOk result (IsSomeAnd self.old.told (IsSequentialZone zone)) }
         ensures within { IfOk result (λ p. IfSome self.old.told (λ g. p ≤ zone_sectors g)) }
-        ensures counted { CountsRead self.old self.new }
+        ensures counted { EdgeReads self.old self.new }
         ensures faults { CountsFaults self.old.faults self.new.faults result }
     {
         self.read_calls = self.read_calls.saturating_add(1);
@@ -121,7 +121,7 @@ impl<F: Read + Write + Seek + OpenFile + Drop> ZonedDisk for FileDisk<F> {
 
     fn read(&mut self, zone: ZoneNo, start: u32, into: &mut [u8]) -> Result<(), Failed>
         ensures ok { OnOk result (IsSomeAnd self.old.told (IsSectorRun zone start into.old)) }
-        ensures counted { CountsRead self.old self.new }
+        ensures counted { EdgeReads self.old self.new }
         ensures faults { CountsFaults self.old.faults self.new.faults result }
     {
         self.read_calls = self.read_calls.saturating_add(1);
@@ -134,7 +134,7 @@ impl<F: Read + Write + Seek + OpenFile + Drop> ZonedDisk for FileDisk<F> {
 
     fn write(&mut self, zone: ZoneNo, start: u32, bytes: &[u8]) -> Result<(), Failed>
         ensures ok { OnOk result (IsSomeAnd self.old.told (IsSectorRun zone start bytes.now)) }
-        ensures counted { CountsWrite self.old self.new }
+        ensures counted { EdgeWrites self.old self.new }
         ensures faults { CountsFaults self.old.faults self.new.faults result }
     {
         self.calls = self.calls.saturating_add(1);
@@ -147,7 +147,7 @@ impl<F: Read + Write + Seek + OpenFile + Drop> ZonedDisk for FileDisk<F> {
 
     fn reset(&mut self, zone: ZoneNo) -> Result<(), Failed>
         ensures ok { OnOk result (IsSomeAnd self.old.told (IsSequentialZone zone)) }
-        ensures counted { CountsWrite self.old self.new }
+        ensures counted { EdgeWrites self.old self.new }
         ensures faults { CountsFaults self.old.faults self.new.faults result }
     {
         self.calls = self.calls.saturating_add(1);
@@ -160,7 +160,7 @@ impl<F: Read + Write + Seek + OpenFile + Drop> ZonedDisk for FileDisk<F> {
 
     fn flush(&mut self) -> Result<(), Failed>
         ensures ok { OnOk result (IsSome self.old.told) }
-        ensures counted { CountsWrite self.old self.new }
+        ensures counted { EdgeWrites self.old self.new }
         ensures faults { CountsFaults self.old.faults self.new.faults result }
     {
         self.calls = self.calls.saturating_add(1);

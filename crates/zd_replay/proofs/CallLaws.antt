@@ -4,7 +4,7 @@ use Rattle.std.specs.List.{range_with_len}
 use Rattle.std.proofs.lemmas.Bool.{eq-eqb, ne_eqb}
 use Rattle.zd_disk.proofs.RunLaws.{count_none, count_then}
 use Rattle.zd_disk.specs.View.{MadeReads, View}
-use Rattle.zd_replay.specs.Run.{IsPlacedRun, IsRunRead, ReadsAt, begins_call, calls_of, is_same_place}
+use Rattle.zd_replay.specs.Run.{IsPlacedRun, IsRunRead, ReadsAt, begins_call, calls_of_read, is_same_place}
 
 same_place : (o : Option ℕ) → is_same_place o o ≡ true
 same_place None = refl
@@ -55,7 +55,7 @@ module _ (place : ℕ → Option ℕ) (from at end run : ℕ) (zone : Option ℕ
       (ap₂ (λ (a b : Bool). a || not b) (ne_eqb x from (λ e. absurd (omega arith)))
       (ap₂ is_same_place before same ∙ same_place zone))
 
-  pub calls_more : calls_of place from (at + run) ≡ calls_of place from at + calls_at zone
+  pub calls_more : calls_of_read place from (at + run) ≡ calls_of_read place from at + calls_at zone
   calls_more =
       let some = is.some in
       let one : count_by (begins_call place from) (range_with_len at 1) ≡ calls_at zone = ap {B = ℕ} (λ (b : Bool). 0 + cond b 1 0) here
