@@ -36,7 +36,7 @@ fn settle<D: ZonedDisk>(disk: &mut D) -> Result<Geometry, Failed>
 /// [`examine`] tells them; the disk then had one flush and no write. After `Device` and `Memory`, too, a
 /// volume is the same one as before, with the same content.
 ///
-/// Up to Ok it makes one writing call for each used block of the other set behind the first that differs,
+/// Up to Ok it makes one writing call for each used block of the other set after the first that differs,
 /// four more, and two more where the other super block is bad.
 ///
 /// A stop at any moment of the call leaves the same volume too, where a stop before would have left what

@@ -27,8 +27,8 @@ row_told row = row_with row.kind row.count
 abbrev pub rows_text : List Row → List ℕ
 rows_text rows = join_with_byte 44 (map row_text rows)
 
--- two texts come to the same: one before a row, the next sector's row and any rows behind them; the
--- other before their last row alone and the same rows behind it
+-- two texts come to the same: one before a row, the next sector's row and any rows after them; the
+-- other before their last row alone and the same rows after it
 abbrev pub IsOwed : List ℕ → Row → Row → List ℕ → Row → Type 0
 IsOwed before row next after last = (rest : List Row) →
     before ++ rows_text (with_first row (with_first next rest))

@@ -11,7 +11,7 @@ use crate::rows::add_items;
 use std::alloc::AllocError;
 use zd_plain::{Entry, History, Reply, What, first_sector};
 
-/// Appends the letters of a form, and a first block or sector and a count behind them.
+/// Appends the letters of a form, and a first block or sector and a count after them.
 fn add_span(text: &mut String, letters: &str, place: u64, count: u32) -> Result<(), AllocError>
     ensures { OnOk result (string_bytes text.new ≡ string_bytes text.old
         ++ (letters.now ++ 32 ∷ (numeral place ++ 32 ∷ (numeral count ++ 32 ∷ [])))) }
@@ -22,7 +22,7 @@ fn add_span(text: &mut String, letters: &str, place: u64, count: u32) -> Result<
     add_field(text, u64::from(count))
 }
 
-/// Appends what was asked for: letters, the place, the count and the seed, a space behind each.
+/// Appends what was asked for: letters, the place, the count and the seed, a space after each.
 fn add_what(text: &mut String, what: What) -> Result<(), AllocError>
     ensures { OnOk result (string_bytes text.new ≡ string_bytes text.old ++ what_text what) }
 {

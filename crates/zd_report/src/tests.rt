@@ -40,7 +40,7 @@ const ODD: &str = "80060000015a0000810600000100000082060000010000008306000001000
      b806000001000000b906000001000000ba06000001000000bb06000001000000\
      bc06000001000000bd06000001000000be06000001000000bf06000001000000";
 
-/// What stands behind it in the second line of the sample, and the other lines.
+/// What stands after it in the second line of the sample, and the other lines.
 const LATER: &str = ",p1x5,z96 @0\n\
     0 3 0 r 14 2 data z16 @0\n\
     0 3 1 r 16 2 data p7x16 @0\n\

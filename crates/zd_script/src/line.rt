@@ -46,20 +46,20 @@ pub struct Line {
     pub asks: Asks,
 }
 
-/// The line in front of a text, and what stands behind it; `None` where no line stands there.
+/// The line that begins a text, and what stands after it; `None` where no line stands there.
 pub fn first_line(text: &[u8]) -> Option<(Line, &[u8])>
     ensures found { IfSome result (λ found. (r : Request)
         × (text.now ≡ line_text r ++ found.1.now) × (found.0 ≡ line_of r)) }
     ensures none { IfNone result ((r : Request) (rest : List ℕ) → text.now ≢ line_text r ++ rest) }
 {
-    let (letter, behind) = text.split_first()?;
-    match behind.strip_prefix(b"s") {
+    let (letter, rest) = text.split_first()?;
+    match rest.strip_prefix(b"s") {
         Some(fields) => line_in_sectors(*letter, fields),
-        None => line_in_blocks(*letter, behind),
+        None => line_in_blocks(*letter, rest),
     }
 }
 
-/// A line whose form has one letter, this one, and what stands behind it.
+/// A line whose form has one letter, this one, and what stands after it.
 fn line_in_blocks(letter: u8, fields: &[u8]) -> Option<(Line, &[u8])>
     ensures found { IfSome result (λ found. (r : Request)
         × (letter ∷ fields.now ≡ line_text r ++ found.1.now) × (found.0 ≡ line_of r)) }
@@ -91,7 +91,7 @@ fn line_in_blocks(letter: u8, fields: &[u8]) -> Option<(Line, &[u8])>
     }
 }
 
-/// A line whose form has two letters, this one and an `s`, and what stands behind it.
+/// A line whose form has two letters, this one and an `s`, and what stands after it.
 fn line_in_sectors(letter: u8, fields: &[u8]) -> Option<(Line, &[u8])>
     ensures found { IfSome result (λ found. (r : Request)
         × (letter ∷ 115 ∷ fields.now ≡ line_text r ++ found.1.now) × (found.0 ≡ line_of r)) }

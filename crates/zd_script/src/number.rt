@@ -9,14 +9,14 @@ ghost use Rattle.zd_script.specs.Number.{HasField, HasNumber, fields, told, valu
 /// A number that no field of a text may have: one more than the largest block.
 const BEYOND: u128 = 1 << 64;
 
-/// How many digits stand in front of another byte; `None` where all bytes are digits.
+/// How many digits stand before another byte; `None` where all bytes are digits.
 fn digit_count(text: &[u8]) -> Option<usize>
     ensures { result ≡ position (λ byte. not (is_ascii_digit byte)) text.now }
 {
     text.iter().position(|byte| !byte.is_ascii_digit())
 }
 
-/// Whether digits are a number's text: there is one, and no zero in front of others.
+/// Whether digits are a number's text: there is one, and no zero before others.
 fn is_numeral(digits: &[u8]) -> bool
     requires { All IsAsciiDigit digits.now }
     ensures right { IsTrue result → numeral (value_after 0 digits.now) ≡ digits.now }
@@ -41,7 +41,7 @@ fn value_of(digits: &[u8]) -> u128
     value
 }
 
-/// The number in front of a text, and what stands behind it, beginning with no digit. The number has
+/// The number that begins a text, and what stands after it, beginning with no digit. The number has
 /// no leading zeros, and it may have any size: from `BEYOND` on the answer is `BEYOND`.
 fn number(text: &[u8]) -> Option<(u128, &[u8])>
     ensures found { IfSome result (λ found.
@@ -55,7 +55,7 @@ fn number(text: &[u8]) -> Option<(u128, &[u8])>
     Some((value_of(digits), rest))
 }
 
-/// The number behind the space in front of a text, and what stands behind it, as `number` answers.
+/// The number after the space that begins a text, and what stands after it, as `number` answers.
 fn field(text: &[u8]) -> Option<(u128, &[u8])>
     ensures found { IfSome result (λ found.
         (n : ℕ) × HasField text.now n found.1.now × (found.0 ≡ told n)) }
@@ -64,7 +64,7 @@ fn field(text: &[u8]) -> Option<(u128, &[u8])>
     number(text.strip_prefix(b" ")?)
 }
 
-/// The `N` numbers of a line behind its letter, as `number` answers each, and what stands behind the
+/// The `N` numbers of a line after its letter, as `number` answers each, and what stands after the
 /// line.
 pub fn numbers<const N: usize>(text: &[u8]) -> Option<([u128; N], &[u8])>
     ensures found { IfSome result (λ found. (ns : List ℕ) × (length ns ≡ N)

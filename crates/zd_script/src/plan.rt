@@ -14,8 +14,8 @@ use std::alloc::Global;
 use zd_model::{BadLine, Request};
 use zd_plain::Plan;
 
-/// The request in front of a text, what stands behind its line, and what it leaves of the limits;
-/// or the first rule that the line in front breaks.
+/// The request that begins a text, what stands after its line, and what it leaves of the limits;
+/// or the first rule that its line breaks.
 fn next(text: &[u8], limits: Limits) -> Result<(Request, &[u8], Limits), BadLine>
     ensures line { IfOk result (λ next. text.now ≡ line_text next.0 ++ next.1.now) }
     ensures right { IfOk result (λ next. IsRightRequest next.0) }

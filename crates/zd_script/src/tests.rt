@@ -169,7 +169,7 @@ const REFUSED: &[(&[u8], u32, BadLine)] = &[
 const HUNDRED_DIGITS: &[u8] =
     b"1234567890123456789012345678901234567890123456789012345678901234567890123456789012345678901234567890";
 
-/// What stands before and behind a hundred digits, and why the line is refused.
+/// What stands before and after a hundred digits, and why the line is refused.
 const AROUND_HUNDRED_DIGITS: &[(&[u8], &[u8], BadLine)] = &[
     (b"r 0 ", b" 1\n", BadLine::Number),
     (b"r 0 0 ", b"\n", BadLine::Number),
@@ -273,15 +273,15 @@ fn other_bytes_are_refused(rt: HostRuntime) {
 
 #[test]
 fn a_hundred_digits_are_a_number(rt: HostRuntime) -> Result<(), Fail> {
-    for (before, behind, why) in AROUND_HUNDRED_DIGITS {
+    for (before, after, why) in AROUND_HUNDRED_DIGITS {
         let mut script = before.to_vec(rt.alloc())?;
         script.extend_from_slice(HUNDRED_DIGITS)?;
-        script.extend_from_slice(behind)?;
+        script.extend_from_slice(after)?;
         let wanted = ScriptFault::Bad { line: 1, why: *why };
         assert_eq!(rt;
             refusal(rt.alloc(), &script),
             Some(wanted),
-            "behind {before:?}"
+            "after {before:?}"
         );
     }
     Ok(())

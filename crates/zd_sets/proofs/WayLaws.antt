@@ -12,7 +12,8 @@ use Rattle.zd_model.proofs.SuperSpelling.{spells}
 use Rattle.zd_sets.specs.Blocks.{AreBlocks, blocks_of}
 use Rattle.zd_sets.specs.Choice.{IsChoice, IsPlacedChoice, chosen_of}
 use Rattle.zd_sets.specs.Equal.{HasSetBlocks, HasSuper, InSet, IsCleared, IsReady, OnlyAt, head_at}
-use Rattle.zd_sets.specs.Kept.{HasMagicOf, HasPartOfBlocks, HasPartOfSuper, IsOnTheWay, IsPartCleared, KeepsVolume}
+use Rattle.zd_sets.specs.Kept.{HasMagicOf, HasPartOfBlocks, HasPartOfSuper, IsPartCleared, KeepsVolume}
+use Rattle.zd_sets.proofs.OnTheWay.{IsOnTheWay}
 use Rattle.zd_sets.specs.declared.choice.Chosen.{Chosen as Choice}
 use Rattle.zd_sets.proofs.EqualLaws.{at_front, first_block, only_more, only_then, same_good, same_only, same_place, set_still, there_inside}
 use Rattle.zd_sets.proofs.KeptLaws.{keeps_volume}

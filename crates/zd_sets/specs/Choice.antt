@@ -65,7 +65,7 @@ pub record IsPlacedChoice (g : Shape) (c : Choice) : Type 0 where
   pub zone : c.zone < g.conv
   pub other : c.other < g.conv
 
--- one of the n zones from this one on, behind the first, begins with the magic bytes
+-- one of the n zones from this one on, after the first, begins with the magic bytes
 abbrev pub HasMagicAfter : Image → ℕ → ℕ → Type 0
 HasMagicAfter image first n =
     (k : ℕ) × (1 ≤ k) × (k < n) × (has_magic (block_at image (first + k) 0) ≡ true)
