@@ -1,5 +1,5 @@
 -- How many writing calls the steps make, one after another.
-use Rattle.std.proofs.Common.{◌≡◌, Option, is_some, Some, ℕ, ◌+◌, ◌-◌, ◌/◌, ◌<◌, ◌≤◌, Bool, false, true≢false, not, cond, List, [], map, sum_by, count_by, sum, sym, ap, ap₂, ◌∙◌, inl, inr, arith}
+use Rattle.std.proofs.Common.{◌≡◌, Option, is_some, Some, ℕ, ◌+◌, ◌-◌, ◌/◌, ◌<◌, ◌≤◌, Bool, false, true≢false, not, cond, List, [], sum_by, count_by, sum, sym, ap, ap₂, ◌∙◌, inl, inr, arith}
 use Rattle.std.specs.List.{range_with_len}
 use Rattle.std.specs.Str.{bytes_eq}
 use Rattle.std.proofs.lemmas.Bool.{cases_Bool}

@@ -49,9 +49,9 @@ pub fn write_block<D: ZonedDisk>(
         (8 * (i % geometry.now.zone_blocks)) bytes.now) (D.view disk.old) (D.view disk.new) }
     ensures call { Calls
         (λ old. WriteStep old (first + i / geometry.now.zone_blocks)
-            (8 * (i % geometry.now.zone_blocks)) bytes.now)
+        (8 * (i % geometry.now.zone_blocks)) bytes.now)
         (λ old new. WriteLeaves old new (first + i / geometry.now.zone_blocks)
-            (8 * (i % geometry.now.zone_blocks)) bytes.now)
+        (8 * (i % geometry.now.zone_blocks)) bytes.now)
         (D.view disk.old) (D.view disk.new) }
     ensures cause { Fails result (D.view disk.old) (D.view disk.new) }
 {

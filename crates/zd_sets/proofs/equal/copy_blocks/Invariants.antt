@@ -1,4 +1,4 @@
-use Rattle.std.proofs.Common.{◌≡◌, ◌<◌, ◌≤◌, ◌-◌, ◌*◌, length, true}
+use Rattle.std.proofs.Common.{◌≡◌, ◌<◌, ◌≤◌, ◌-◌, true}
 use Rattle.zd_disk.specs.Runs.{run_count, starts_run}
 use Rattle.zd_disk.specs.View.{MadeOf, MadeReads, Reaches, Turns}
 use Rattle.zd_sets.specs.Calls.{differing_from}

@@ -1,4 +1,4 @@
-use Rattle.std.proofs.Common.{◌≡◌, ◌+◌, ◌-◌, ◌*◌, ◌<◌, ℕ, take, drop, inr, sym, ap, ◌∙◌, arith}
+use Rattle.std.proofs.Common.{◌≡◌, ◌+◌, ◌-◌, ◌*◌, ℕ, take, drop, inr, sym, ap, ◌∙◌, arith}
 use Rattle.zd_disk.proofs.ViewLaws.{reaches_as, turned_back, turns_then, way_then, read_as}
 use Rattle.zd_model.specs.Image.{set_block}
 use Rattle.zd_sets.specs.Equal.{InSet}
