@@ -189,16 +189,16 @@ impl MemDisk {
 
 impl ZonedDisk for MemDisk {
     ghost view = { λ d. record {
-        told = Some (disk_geometry d);
-        zones = Some (disk_image d);
-        calls = disk_calls d;
-        read_calls = disk_read_calls d;
-        left = disk_left d;
-        faults = disk_faults d;
-        agrees = disk_agrees d;
-        shaped = disk_shaped d;
-        leaves = disk_leaves d;
-        reads = disk_reads d;
+      told = Some (disk_geometry d);
+      zones = Some (disk_image d);
+      calls = disk_calls d;
+      read_calls = disk_read_calls d;
+      left = disk_left d;
+      faults = disk_faults d;
+      agrees = disk_agrees d;
+      shaped = disk_shaped d;
+      leaves = disk_leaves d;
+      reads = disk_reads d;
     } };
 
     fn geometry(&mut self) -> Result<Geometry, Failed>

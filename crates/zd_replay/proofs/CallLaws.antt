@@ -59,7 +59,7 @@ module _ (place : ℕ → Option ℕ) (from at end run : ℕ) (zone : Option ℕ
   calls_more =
       let some = is.some in
       let one : count_by (begins_call place from) (range_with_len at 1) ≡ calls_at zone = ap {B = ℕ} (λ (b : Bool). 0 + cond b 1 0) here
-          ∙ (let e : 0 + cond (is_some zone) 1 0 ≡ cond (is_some zone) 1 0 = omega arith in e) in
+      ∙ (let e : 0 + cond (is_some zone) 1 0 ≡ cond (is_some zone) 1 0 = omega arith in e) in
       let single = ap (λ (n : ℕ). count_by (begins_call place from) (range_with_len at n)) (let e : at + 1 - at ≡ 1 = omega arith in e) in
       let rest = count_none (begins_call place from) (at + 1) (at + run - (at + 1)) none_inside in
       let first = count_then (begins_call place from) at (at + 1) (at + run) (omega arith) (omega arith) in

@@ -63,8 +63,10 @@ flush-tells x c = record {
     read_calls = c.ensures.counted.read_calls;
     left = c.ensures.left;
   };
-  durable = on_ok_weaker c.result (λ h. record { left = λ low i e other can.
-      subst (λ (j : Image). Same j other) (sym c.ensures.zones ∙ Some-same (disk_image c.new.self.now) i e) (h low other can) })
+  durable = on_ok_weaker c.result (λ h. record {
+    left = λ low i e other can.
+        subst (λ (j : Image). Same j other) (sym c.ensures.zones ∙ Some-same (disk_image c.new.self.now) i e) (h low other can);
+  })
       c.ensures.durable;
   cause = c.ensures.cause.faults.1.failed;
 }
