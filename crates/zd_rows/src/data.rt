@@ -61,7 +61,12 @@ fn two_runs(rt: &(impl Abort + AllocGlobal)) -> Result<MemDisk, Fail> {
 }
 
 /// Has the nth read of a zone fail.
-pub fn failing(rt: &impl AllocGlobal, mut disk: MemDisk, zone: u32, nth: u64) -> Result<MemDisk, Fail> {
+pub fn failing(
+    rt: &impl AllocGlobal,
+    mut disk: MemDisk,
+    zone: u32,
+    nth: u64,
+) -> Result<MemDisk, Fail> {
     let fail = Failing {
         call: DeviceCall::Read,
         zone: Some(ZoneNo(zone)),

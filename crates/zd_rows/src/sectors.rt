@@ -31,7 +31,11 @@ fn expect_reads(
     let opening = reading_calls(rt, disk, "", "end 0 ok;")?.ok_or("opening")?;
     for (script, output, calls) in rows {
         let made = reading_calls(rt, disk, script, output)?.ok_or("run")?;
-        assert_eq!(rt; made.checked_sub(opening), Some(*calls), "reading calls of {script}");
+        assert_eq!(rt;
+            made.checked_sub(opening),
+            Some(*calls),
+            "reading calls of {script}"
+        );
     }
     Ok(())
 }
@@ -69,7 +73,11 @@ const CONVENTIONAL_BLOCK: [(&str, &str, u64); 5] = [
     ("rs 0 10 3;", "0 1 0 rs 10 3 data p4x3 @0;end 0 ok;", 1),
     ("rs 0 6 4;", "0 1 0 rs 6 4 data z2,p4x2 @0;end 0 ok;", 1),
     ("rs 0 14 4;", "0 1 0 rs 14 4 data p4x2,z2 @0;end 0 ok;", 1),
-    ("rs 0 7 10;", "0 1 0 rs 7 10 data z1,p4x8,z1 @0;end 0 ok;", 1),
+    (
+        "rs 0 7 10;",
+        "0 1 0 rs 7 10 data z1,p4x8,z1 @0;end 0 ok;",
+        1,
+    ),
     (
         "rs 0 7 1;rs 0 8 1;rs 0 15 1;rs 0 16 1;",
         "0 1 0 rs 7 1 data z1 @0;0 2 0 rs 8 1 data p4x1 @0;\
@@ -101,7 +109,11 @@ const BUFFERED_BLOCK: [(&str, &str, u64); 4] = [
     ("rs 0 26 4;", "0 1 0 rs 26 4 data p7x4 @0;end 0 ok;", 1),
     ("rs 0 30 3;", "0 1 0 rs 30 3 data p7x2,z1 @0;end 0 ok;", 1),
     ("rs 0 9 14;", "0 1 0 rs 9 14 data z14 @0;end 0 ok;", 0),
-    ("rs 0 4 22;", "0 1 0 rs 4 22 data p1x4,z16,p7x2 @0;end 0 ok;", 2),
+    (
+        "rs 0 4 22;",
+        "0 1 0 rs 4 22 data p1x4,z16,p7x2 @0;end 0 ok;",
+        2,
+    ),
 ];
 
 /// Blocks 0, 1 and 4 have data in the zone, 3 and 5 in its buffer.
