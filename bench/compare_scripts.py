@@ -15,43 +15,57 @@ from pathlib import Path
 TOP = Path(__file__).resolve().parent.parent
 PROGRAM = TOP / "crates/zreplay_one/out/zreplay_one"
 MAKE = TOP / "examples/fresh/make"
-BLOCKS, CHUNK = 128, 16
+BLOCKS, CHUNK, BLOCK_SECTORS = 128, 16, 8
 
 NUMBER = rb"(0|[1-9][0-9]*)"
+FIELDS = {"r": 3, "w": 4, "d": 3, "f": 1, "rs": 3, "ws": 4}
 FORMS = {
-    letter: re.compile(letter + (b" " + NUMBER) * count)
-    for letter, count in ((b"r", 3), (b"w", 4), (b"d", 3), (b"f", 1))
+    letters.encode(): re.compile(letters.encode() + (b" " + NUMBER) * count)
+    for letters, count in FIELDS.items()
 }
-EDGES = [0, 1, 2, 15, 16, 63, 64, 127, 128, 32768, 32769, 4194304, 4194305,
-         2**32 - 1, 2**32, 2**64 - 1, 2**64]
+EDGES = [0, 1, 2, 7, 8, 15, 16, 63, 64, 127, 128, 1023, 1024, 32768, 32769, 262137, 262138, 262144, 262145,
+         4194304, 4194305, 2**32 - 1, 2**32, 2**64 - 1, 2**64]
 
 
 def refusal(line, is_ended):
-    """The rule that a line breaks by itself, or its letter and numbers."""
-    letter = line[:1]
-    match = FORMS[letter].fullmatch(line) if letter in FORMS else None
+    """The rule that a line breaks by itself, or its letters and numbers."""
+    letters = line.split(b" ")[0]
+    match = FORMS[letters].fullmatch(line) if letters in FORMS else None
     if not match or not is_ended:
         return "form", None
     numbers = [int(number) for number in match.groups()]
-    if letter != b"f" and not (numbers[1] < 2**64 and 1 <= numbers[2] < 2**32):
+    if letters != b"f" and not (numbers[1] < 2**64 and 1 <= numbers[2] < 2**32):
         return "number", None
-    if letter == b"w" and numbers[3] >= 2**32:
+    if letters in (b"w", b"ws") and numbers[3] >= 2**32:
         return "number", None
     if numbers[0] > 63:
         return "caller", None
-    return None, (letter, numbers)
+    return None, (letters, numbers)
 
 
-def answers(reads):
-    """The report's lines of reads of an empty volume."""
-    for request, (_, block, count) in enumerate(reads, 1):
-        if block + count > BLOCKS:
-            yield f"0 {request} 0 r {block} {count} range @0"
+def touched(letters, numbers):
+    """How many blocks a request reads or writes, those in part too, and how many it discards."""
+    if letters in (b"r", b"w"):
+        return numbers[2], 0
+    if letters in (b"rs", b"ws"):
+        first, last = numbers[1] // BLOCK_SECTORS, (numbers[1] + numbers[2] - 1) // BLOCK_SECTORS
+        return last - first + 1, 0
+    return 0, numbers[2] if letters == b"d" else 0
+
+
+def answers(requests):
+    """The report's lines of reads of an empty volume, each in its own unit: blocks or sectors."""
+    for request, (letters, (_, place, count)) in enumerate(requests, 1):
+        sectors = BLOCK_SECTORS if letters == b"r" else 1
+        units = BLOCK_SECTORS // sectors
+        form = letters.decode()
+        if place + count > BLOCKS * units:
+            yield f"0 {request} 0 {form} {place} {count} range @0"
             continue
-        at, piece = block, 0
-        while at < block + count:
-            end = min((at // CHUNK + 1) * CHUNK, block + count)
-            yield f"0 {request} {piece} r {at} {end - at} data z{8 * (end - at)} @0"
+        at, piece, chunk = place, 0, CHUNK * units
+        while at < place + count:
+            end = min((at // chunk + 1) * chunk, place + count)
+            yield f"0 {request} {piece} {form} {at} {end - at} data z{sectors * (end - at)} @0"
             at, piece = end, piece + 1
 
 
@@ -64,16 +78,15 @@ def wanted(script):
     for number, line in enumerate(lines + [rest] if rest else lines, 1):
         why, request = refusal(line, number <= len(lines))
         if not why:
-            letter, numbers = request
-            moved += numbers[2] if letter in (b"r", b"w") else 0
-            discarded += numbers[2] if letter == b"d" else 0
+            more = touched(*request)
+            moved, discarded = moved + more[0], discarded + more[1]
             why = "long" if moved > 32768 or discarded > 4194304 else None
         if why:
             return f"end 2 script {number} {why}\n", 2
         requests.append(request)
-    if any(letter != b"r" or numbers[0] != 0 for letter, numbers in requests):
+    if any(letters not in (b"r", b"rs") or numbers[0] != 0 for letters, numbers in requests):
         return "end 11 not-built\n", 11
-    report = [*answers(numbers for _, numbers in requests), "end 0 ok"]
+    report = [*answers(requests), "end 0 ok"]
     return "\n".join(report) + "\n", 0
 
 
@@ -83,15 +96,17 @@ def number():
 
 
 def line():
-    letter = "r" if random.random() < 0.75 else random.choice("wdf")
-    fields = [number() for _ in range({"r": 3, "w": 4, "d": 3, "f": 1}[letter])]
+    letters = random.choice(["r", "rs"] if random.random() < 0.8 else ["w", "ws", "d", "f"])
+    fields = [number() for _ in range(FIELDS[letters])]
+    if letters == "rs" and random.random() < 0.4:
+        fields[1] = str(random.randint(0, BLOCKS * BLOCK_SECTORS))
     if random.random() < 0.8:
         fields[0] = "0"
     if len(fields) > 2 and random.random() < 0.8:
-        fields[2] = str(random.randint(1, 40))
+        fields[2] = str(random.randint(1, 300 if letters == "rs" else 40))
     if random.random() < 0.03:
         fields.append(number())
-    return " ".join([letter, *fields])
+    return " ".join([letters, *fields])
 
 
 def main():

@@ -17,7 +17,7 @@ use zd_open::examine;
 use zd_plain::pattern;
 
 /// The volume of the rows with one block of data, block 1 of chunk 0, in zone 2.
-fn one_block(rt: &(impl Abort + AllocGlobal)) -> Result<MemDisk, Fail> {
+pub fn one_block(rt: &(impl Abort + AllocGlobal)) -> Result<MemDisk, Fail> {
     let data = Data {
         zone: 2,
         block: 1,
@@ -61,7 +61,12 @@ fn two_runs(rt: &(impl Abort + AllocGlobal)) -> Result<MemDisk, Fail> {
 }
 
 /// Has the nth read of a zone fail.
-fn failing(rt: &impl AllocGlobal, mut disk: MemDisk, zone: u32, nth: u64) -> Result<MemDisk, Fail> {
+pub fn failing(
+    rt: &impl AllocGlobal,
+    mut disk: MemDisk,
+    zone: u32,
+    nth: u64,
+) -> Result<MemDisk, Fail> {
     let fail = Failing {
         call: DeviceCall::Read,
         zone: Some(ZoneNo(zone)),
@@ -119,14 +124,14 @@ fn a_block_may_have_sectors_of_two_writes(rt: HostRuntime) -> Result<(), Fail> {
 }
 
 /// A block of data in a sequential zone.
-const SEQUENTIAL: Data = Data {
+pub const SEQUENTIAL: Data = Data {
     zone: 6,
     block: 0,
     seed: 1,
 };
 
 /// A block of data in a buffer.
-const BUFFERED: Data = Data {
+pub const BUFFERED: Data = Data {
     zone: 2,
     block: 3,
     seed: 7,
@@ -145,7 +150,7 @@ fn a_sequential_zone_is_read_with_and_without_a_buffer(rt: HostRuntime) -> Resul
 
 /// The volume whose chunk 0 has blocks 0, 1 and 4 in zone 6, and blocks 3 and 5 in its buffer, zone 2.
 /// Both zones hold others too.
-fn in_turns(rt: &(impl Abort + AllocGlobal)) -> Result<MemDisk, Fail> {
+pub fn in_turns(rt: &(impl Abort + AllocGlobal)) -> Result<MemDisk, Fail> {
     let mut disk = fresh(rt)?;
     put(rt, &mut disk, 0, 1, &map_block(0, 6, 2))?;
     put(rt, &mut disk, 0, 8, &bitmap_of(0x13))?;

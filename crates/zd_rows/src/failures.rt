@@ -25,7 +25,8 @@ fn failing(
     Ok(disk)
 }
 
-/// The next run finds that the disk answers again.
+/// Zones 0 and 1 have a read each for their super blocks and one for the other blocks of their sets. The
+/// next run finds that the disk answers again.
 #[test]
 fn a_disk_that_fails_in_opening_ends_the_run(rt: HostRuntime) -> Result<(), Fail> {
     for (call, zone, nth) in [
@@ -34,12 +35,10 @@ fn a_disk_that_fails_in_opening_ends_the_run(rt: HostRuntime) -> Result<(), Fail
         (DeviceCall::Flush, None, 1),
         (DeviceCall::Read, Some(ZoneNo(0)), 1),
         (DeviceCall::Read, Some(ZoneNo(0)), 2),
-        (DeviceCall::Read, Some(ZoneNo(0)), 15),
         (DeviceCall::Read, Some(ZoneNo(1)), 1),
         (DeviceCall::Report, None, 1),
         (DeviceCall::Report, Some(ZoneNo(11)), 1),
         (DeviceCall::Read, Some(ZoneNo(1)), 2),
-        (DeviceCall::Read, Some(ZoneNo(1)), 14),
         (DeviceCall::Flush, None, 2),
         (DeviceCall::Write, Some(ZoneNo(1)), 1),
         (DeviceCall::Flush, None, 3),

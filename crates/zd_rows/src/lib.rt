@@ -32,6 +32,10 @@ mod refusals;
 #[cfg(test)]
 mod run;
 #[cfg(test)]
+mod sectors;
+#[cfg(test)]
 mod sets;
 #[cfg(test)]
 mod two_zones;
+#[cfg(test)]
+mod versions;

@@ -6,13 +6,13 @@ use Rattle.zd_stop_rows.proofs.stops.byte.Goals as goal
 
 pub read-requires-clause-below : goal.read-requires-clause-below
 read-requires-clause-below g c =
-    let d = c.geometry.new.self in
+    let view = g.D.ZonedDisk.view c.geometry.new.self in
     let shape = c.in_ok-geometry.geometry in
     let zone = c.args.zone in
-    IfSome-each (g.D.ZonedDisk.zones d) (λ (i : Image). c.args.sector + 1 ≤ i.held zone) (λ i e.
-    let told = sym c.in_ok-geometry.ensures.value ∙ g.met.D.ZonedDisk.agrees d i e in
+    IfSome-each view.zones (λ (i : Image). c.args.sector + 1 ≤ i.held zone) (λ i e.
+    let told = sym c.in_ok-geometry.ensures.value ∙ view.agrees i e in
     let same : shape ≡ i.geometry = Some-same shape i.geometry told in
     let below = subst (λ (s : Shape). zone < s.conv) same (omega (arith, c.conv.ensures.value)) in
-    let held = (g.met.D.ZonedDisk.shaped d i e).conventional zone below in
+    let held = (view.shaped i e).conventional zone below in
     let size = ap (λ (s : Shape). s.zone_blocks) same in
     omega (arith, c.conv.ensures.shape.size.least))
