@@ -18,8 +18,8 @@ none_then (Some x) P Q f h = tt
 pub returns-in-Some-clause-none : goal.returns-in-Some-clause-none
 returns-in-Some-clause-none c =
     let letter : ℕ = c.in_ok-letter.letter.now in
-    let behind : List ℕ = c.in_ok-letter.behind.now in
-    let split : behind ≡ 115 ∷ c.in-Some.fields.now = strip_prefix_is Decides-eqb behind (115 ∷ []) (Some c.in-Some.fields) c.in-Some.ensures.cases in
+    let after : List ℕ = c.in_ok-letter.rest.now in
+    let split : after ≡ 115 ∷ c.in-Some.fields.now = strip_prefix_is Decides-eqb after (115 ∷ []) (Some c.in-Some.fields) c.in-Some.ensures.cases in
     let whole : c.args.text.now ≡ letter ∷ 115 ∷ c.in-Some.fields.now = c.in_ok-letter.ensures.cases.0 ∙ ap (λ xs. letter ∷ xs) split in
     none_then c.line_in_sectors.result _ _
     (λ none r rest e. no_line_in_sectors letter c.in-Some.fields.now none r rest (sym whole ∙ e)) c.line_in_sectors.ensures.none
@@ -27,8 +27,8 @@ returns-in-Some-clause-none c =
 pub returns-in-None-clause-none : goal.returns-in-None-clause-none
 returns-in-None-clause-none c =
     let letter : ℕ = c.in_ok-letter.letter.now in
-    let behind : List ℕ = c.in_ok-letter.behind.now in
-    let other = strip_prefix_is Decides-eqb behind (115 ∷ []) None c.in-None.ensures.cases in
+    let after : List ℕ = c.in_ok-letter.rest.now in
+    let other = strip_prefix_is Decides-eqb after (115 ∷ []) None c.in-None.ensures.cases in
     none_then c.line_in_blocks.result _ _
-    (λ none r rest e. no_line_in_blocks letter behind other none r rest (sym c.in_ok-letter.ensures.cases.0 ∙ e))
+    (λ none r rest e. no_line_in_blocks letter after other none r rest (sym c.in_ok-letter.ensures.cases.0 ∙ e))
     c.line_in_blocks.ensures.none
