@@ -19,6 +19,7 @@ use Rattle.zd_model.specs.declared.metadata.MapEntry.{MapEntry}
 use Rattle.zd_model.specs.declared.metadata.Super.{Super}
 use Rattle.zd_model.proofs.Decoded.{decodes}
 use Rattle.zd_model.proofs.SuperSpelling.{spells}
+use Rattle.zd_model.proofs.TailLaws.{fits_2}
 use Rattle.zd_model.proofs.FreshLaws.{unmapped, empty_tables, empty_map, empty_bits, empty_served}
 use Rattle.zd_format.specs.Fresh.{IsFresh, head_of}
 use Rattle.zd_format.specs.Sets.{HasBothSets, zero_blocks}
@@ -109,6 +110,7 @@ module _ (image : Image) (reserved : ℕ) (layout : Layout) (label volume : List
         label = sizes.label;
         volume = sizes.volume;
         device = sizes.device;
+        fits = fits_2 other refl;
       }
 
   some_block : 0 < layout.meta_blocks
