@@ -1,21 +1,28 @@
 #!/usr/bin/env python3
-"""Compares zreplay_one with a plain, slow reading of the rules, on random scripts over the fresh volume.
+"""Compares zreplay_one with a plain, slow reading of the rules, on random scripts over two volumes.
 
 Usage: bench/compare_scripts.py [COUNT [SEED]], after ./demo, which builds the programs.
 It stops at the first difference. Scripts lie near the rules: numbers at their bounds, and small slips.
+One volume is fresh; the other has blocks in zones and in buffer zones, and sectors of every kind of item.
 """
 import random
 import re
+import struct
 import subprocess
 import sys
 import tempfile
 from collections import Counter
+from itertools import groupby
 from pathlib import Path
 
 TOP = Path(__file__).resolve().parent.parent
 PROGRAM = TOP / "crates/zreplay_one/out/zreplay_one"
 MAKE = TOP / "examples/fresh/make"
-BLOCKS, CHUNK, BLOCK_SECTORS = 128, 16, 8
+BLOCKS, CHUNK, BLOCK_SECTORS, SECTOR = 128, 16, 8, 512
+BLOCK, CONVENTIONAL, POINTERS, ZONES = BLOCK_SECTORS * SECTOR, 6, 4096, 8192
+EMPTY = [bytes(SECTOR)] * (BLOCKS * BLOCK_SECTORS)
+# Chunk: its zone and its buffer zone, which is conventional, or None. The other chunks have no zone.
+MAPPED = {0: (6, 2), 1: (3, None), 2: (9, None), 4: (7, 5), 7: (4, None)}
 
 NUMBER = rb"(0|[1-9][0-9]*)"
 FIELDS = {"r": 3, "w": 4, "d": 3, "f": 1, "rs": 3, "ws": 4}
@@ -53,8 +60,28 @@ def touched(letters, numbers):
     return 0, numbers[2] if letters == b"d" else 0
 
 
-def answers(requests):
-    """The report's lines of reads of an empty volume, each in its own unit: blocks or sectors."""
+def pattern(seed, sector):
+    """The 512 bytes that a write of a seed puts into a sector."""
+    return struct.pack("<64Q", *((seed << 32) + (64 * sector + word) % 2**32 for word in range(64)))
+
+
+def kind(sector, data):
+    """Which kind of item a sector is: zeros, the pattern of a seed, or any other."""
+    seed = struct.unpack_from("<I", data, 4)[0]
+    if not any(data):
+        return "z"
+    return f"p{seed}x" if data == pattern(seed, sector) else "h" + data.hex()
+
+
+def items(content, first, end):
+    """The items of the sectors from first to before end, each row as long as it can be."""
+    for name, row in groupby(kind(sector, content[sector]) for sector in range(first, end)):
+        count = len(list(row))
+        yield from [name] * count if name[0] == "h" else [f"{name}{count}"]
+
+
+def answers(requests, content):
+    """The report's lines of reads of a volume's content, each in its own unit: blocks or sectors."""
     for request, (letters, (_, place, count)) in enumerate(requests, 1):
         sectors = BLOCK_SECTORS if letters == b"r" else 1
         units = BLOCK_SECTORS // sectors
@@ -65,11 +92,12 @@ def answers(requests):
         at, piece, chunk = place, 0, CHUNK * units
         while at < place + count:
             end = min((at // chunk + 1) * chunk, place + count)
-            yield f"0 {request} {piece} {form} {at} {end - at} data z{sectors * (end - at)} @0"
+            data = ",".join(items(content, at * sectors, end * sectors))
+            yield f"0 {request} {piece} {form} {at} {end - at} data {data} @0"
             at, piece = end, piece + 1
 
 
-def wanted(script):
+def wanted(script, content):
     """What the program has to print, and its status."""
     lines = script.split(b"\n")
     rest = lines.pop()
@@ -86,8 +114,49 @@ def wanted(script):
         requests.append(request)
     if any(letters not in (b"r", b"rs") or numbers[0] != 0 for letters, numbers in requests):
         return "end 11 not-built\n", 11
-    report = [*answers(requests), "end 0 ok"]
+    report = [*answers(requests, content), "end 0 ok"]
     return "\n".join(report) + "\n", 0
+
+
+def zone_block(zone, block):
+    """Where in the image file a block of a zone begins, in bytes."""
+    return ZONES + (zone * CHUNK + block) * BLOCK
+
+
+def random_sectors(block):
+    """Eight sectors of one block: patterns of one seed for the most part, and some of the other kinds."""
+    seed = random.choice([0, 1, 7, 2**32 - 1])
+    for sector in range(block * BLOCK_SECTORS, (block + 1) * BLOCK_SECTORS):
+        other = [bytes(SECTOR), pattern(seed, sector + 1), pattern(seed, sector)[:-1] + b"!", random.randbytes(SECTOR)]
+        yield random.choice(other) if random.random() < 0.3 else pattern(seed, sector)
+
+
+def fill(image):
+    """Maps chunks of a fresh image in both sets, fills some of their blocks, and gives the content's sectors."""
+    content, filled = list(EMPTY), bytearray(image).ljust(zone_block(12, 0), b"\0")
+    for chunk, zones in MAPPED.items():
+        entry = struct.pack("<II", *(0xFFFFFFFF if zone is None else zone for zone in zones))
+        for set_zone in (0, 1):
+            place = zone_block(set_zone, 1) + chunk * len(entry)
+            filled[place:place + len(entry)] = entry
+        for block in range(CHUNK):
+            zone = random.choice([*zones, None])
+            if zone is not None:
+                fill_block(filled, content, chunk, zone, block)
+    return bytes(filled), content
+
+
+def fill_block(filled, content, chunk, zone, block):
+    """Puts one valid block into a zone: its bit in both sets, its sectors, the zone's pointer behind it."""
+    sectors = list(random_sectors(chunk * CHUNK + block))
+    first = (chunk * CHUNK + block) * BLOCK_SECTORS
+    content[first:first + BLOCK_SECTORS] = sectors
+    place = zone_block(zone, block)
+    filled[place:place + BLOCK] = b"".join(sectors)
+    for set_zone in (0, 1):
+        filled[zone_block(set_zone, 2 + zone) + block // 8] |= 1 << block % 8
+    if zone >= CONVENTIONAL:
+        struct.pack_into("<I", filled, POINTERS + 4 * zone, (block + 1) * BLOCK_SECTORS)
 
 
 def number():
@@ -113,23 +182,28 @@ def main():
     count = int(sys.argv[1]) if len(sys.argv) > 1 else 3000
     random.seed(int(sys.argv[2]) if len(sys.argv) > 2 else 1)
     with tempfile.TemporaryDirectory() as folder:
-        image = Path(folder) / "fresh.img"
-        subprocess.run([MAKE, image], check=True)
-        compare(count, image)
+        fresh, filled = Path(folder) / "fresh.img", Path(folder) / "filled.img"
+        subprocess.run([MAKE, fresh], check=True)
+        image, content = fill(fresh.read_bytes())
+        filled.write_bytes(image)
+        compare(count, [(fresh, EMPTY), (filled, content)])
+        if filled.read_bytes() != image:
+            sys.exit("a read changed the image")
 
 
-def compare(count, image):
+def compare(count, volumes):
     seen = Counter()
     for _ in range(count):
+        image, content = random.choice(volumes)
         lines = [line() for _ in range(random.randint(0, 5))]
         end = "\n" if lines and random.random() < 0.95 else ""
         script = ("\n".join(lines) + end).encode()
         run = subprocess.run([PROGRAM, image, "-"], input=script, capture_output=True)
-        want = wanted(script)
+        want = wanted(script, content)
         if (run.stdout.decode(), run.returncode) != want:
-            sys.exit(f"script {script!r}\nwanted {want}\ngot {run.stdout!r}, {run.returncode}")
-        seen[want[1]] += 1
-    print("no difference; by status:", dict(sorted(seen.items())))
+            sys.exit(f"image {image.name}, script {script!r}\nwanted {want}\ngot {run.stdout!r}, {run.returncode}")
+        seen[image.stem, want[1]] += 1
+    print("no difference; by volume and status:", dict(sorted(seen.items())))
 
 
 main()
