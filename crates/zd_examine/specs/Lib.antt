@@ -1,0 +1,4 @@
+pub mod Roles
+pub mod Bits
+pub mod Examined
+pub mod Opened

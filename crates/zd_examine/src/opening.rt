@@ -1,0 +1,77 @@
+//! Opening a disk: examined, and both sets of metadata equal.
+
+ghost use Rattle.std.specs.Prelude.{◌≡◌, ◌+◌, ◌≤◌, Some, Err, IfOk, IfErr, OnOk};
+ghost use Rattle.zd_base.specs.Geometry.{IsShape};
+ghost use Rattle.zd_disk.specs.Told.{WhereTold, next_count};
+ghost use Rattle.zd_disk.specs.View.{Fails, HasFailed, IsDurable, Keeps, MadeOf, Reaches, ReachesBy, Turns};
+ghost use Rattle.zd_model.specs.Image.{Same};
+ghost use Rattle.zd_examine.specs.Examined.{ExplainsRefusal, IsUsable};
+ghost use Rattle.zd_examine.specs.Opened.{IsFlushed, IsKept, IsLeftOrKept, IsOpened, IsRefusal, KeepsFrom, open_calls};
+
+use crate::{Image, OpenFault, examine};
+use std::alloc::Global;
+use zd_base::{Failed, Geometry};
+use zd_disk::ZonedDisk;
+use zd_sets::make_equal;
+
+/// Asks for the geometry and flushes, so that a stop leaves what the disk reads as.
+fn settle<D: ZonedDisk>(disk: &mut D) -> Result<Geometry, Failed>
+    ensures told { IfOk result (λ g. (D.view disk.new).told ≡ Some g) }
+    ensures shape { IfOk result IsShape }
+    ensures way { Reaches Same (D.view disk.old) (D.view disk.new) }
+    ensures counted { OnOk result ((D.view disk.new).calls ≡ next_count (D.view disk.old).calls) }
+    ensures durable { OnOk result (IsDurable (D.view disk.new)) }
+    ensures cause { Fails result (D.view disk.old) (D.view disk.new) }
+{
+    let geometry = disk.geometry()?;
+    let _zone_blocks = geometry.zone_blocks();
+    disk.flush()?;
+    Ok(geometry)
+}
+
+/// Opens the volume on a disk: flushes, examines, and makes the other set of metadata equal to the
+/// chosen one.
+///
+/// `NoSuperBlock`, `Layout`, `BadMap` and `BadBits` come exactly where the disk is no volume, as
+/// [`examine`] tells them; the disk then had one flush and no write. After `Device` and `Memory`, too, a
+/// volume is the same one as before, with the same content.
+///
+/// Up to Ok it makes one writing call for each used block of the other set after the first that differs,
+/// four more, and two more where the other super block is bad.
+///
+/// A stop at any moment of the call leaves the same volume too, where a stop before would have left what
+/// the disk read as. Where it would not have, that is so from the end of the flush on, unless the answer is
+/// `Device`; then, and before the end of the flush, a stop may also leave what it could have left before the
+/// call. After Ok it leaves what the disk reads as.
+pub fn open<D: ZonedDisk>(alloc: Global, disk: &mut D) -> Result<Image, OpenFault>
+    ensures ok { IfOk result (λ v. Turns (IsOpened v.geometry v.chosen v.blocks v.pointers.items)
+        (D.view disk.old) (D.view disk.new)) }
+    ensures usable { IfOk result (λ v. IsUsable v.geometry v.chosen v.blocks v.pointers.items) }
+    ensures told { IfOk result (λ v. (D.view disk.new).told ≡ Some v.geometry) }
+    ensures err { IfErr result (λ fault. WhereTold (D.view disk.old).zones (ExplainsRefusal fault)) }
+    ensures counted { IfOk result (λ v. MadeOf (open_calls v.chosen)
+        (D.view disk.old) (D.view disk.new)) }
+    ensures refused { IfErr result (λ fault. IsRefusal fault → IsFlushed
+        (D.view disk.old) (D.view disk.new)) }
+
+    // What the disk reads as, and what a stop leaves, at each moment of the call.
+    ensures way { ReachesBy IsLeftOrKept (D.view disk.old) (D.view disk.new) }
+    ensures kept { Keeps IsKept (D.view disk.old) (D.view disk.new) }
+    ensures settled { (result ≡ Err OpenFault.Device → ⊥) →
+        KeepsFrom ((D.view disk.old).calls + 1) (D.view disk.old) (D.view disk.new) }
+    ensures durable { OnOk result (IsDurable (D.view disk.new)) }
+
+    ensures cause { result ≡ Err OpenFault.Device → HasFailed (D.view disk.old) (D.view disk.new) }
+{
+    let Ok(_geometry) = settle(disk) else {
+        return Err(OpenFault::Device);
+    };
+    let image = match examine(alloc, disk) {
+        Ok(image) => image,
+        Err(fault) => return Err(fault),
+    };
+    match make_equal(disk, &image.geometry, &image.chosen, &image.blocks) {
+        Ok(()) => Ok(image),
+        Err(Failed) => Err(OpenFault::Device),
+    }
+}
