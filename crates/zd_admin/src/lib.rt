@@ -1,4 +1,15 @@
 //! The work of an administrator on a disk, from words to the last line and the exit status.
+//!
+//! # What is proved
+//!
+//! `admin`, over any disk and sink: status 1 exactly where the words aren't a command, and then
+//! the very disk comes back (`usage`, `same`); 4 and 6 only where the count of the disk, of the
+//! sink rose (`device`, `sink`); 10 only where there is no room, and then nothing was written
+//! (`unfit`); at 0 and 6 the disk is the volume that was asked for, and so is every image that a
+//! stop may then leave (`ok`, a `Holds`); the output is whole or a prefix (`report`); right words
+//! and no failure give 0 where there is room, 10 where there is none, or 7 (`complete`).
+//! `one_outcome` is the law that the causes exclude each other. `paths` gives the words that
+//! stand for the files, none exactly where the words aren't a command.
 #![tactic(auto)]
 
 mod laws;

@@ -4,6 +4,10 @@
 //! some of them. Block `n` is bit `n % 8` of byte `n / 8`, the least bit first. A set bit is a
 //! valid block. Blocks are counted from the slice's first bit on, and every range of blocks ends
 //! inside the slice. No call needs whole bitmap blocks: all bytes are bits.
+//!
+//! # What is proved
+//!
+//! `valid`, `set_range`, `clear_range`, `first_valid`, `run_at` and `weight` are exact.
 #![tactic(auto)]
 
 ghost use Rattle.std.specs.Prelude.{◌≡◌, ◌+◌, ◌*◌, ◌<◌, ◌≤◌, ◌↔◌, length, true, false, IsTrue};

@@ -3,6 +3,11 @@
 //! A map block is a block of 4096 bytes with 512 entries of 8 bytes. An entry is two numbers of four
 //! bytes, little-endian: the chunk's zone, then its buffer zone. 0xFFFFFFFF is none. Every block of
 //! 4096 bytes is a map block.
+//!
+//! # What is proved
+//!
+//! `get` is `entry_at`; `set` changes this entry and no other; `blank` gives a block that names
+//! no zone.
 #![tactic(auto)]
 
 ghost use Rattle.std.specs.Prelude.{◌≡◌, ◌≢◌, ◌⊎◌, ◌+◌, ◌≤◌, ◌<◌, ℕ, length};

@@ -1,4 +1,9 @@
 //! Plans and the pieces that they are cut into, the patterns of sectors, and histories.
+//!
+//! # What is proved
+//!
+//! `pieces` is `pieces_of`, cut in sectors; `pattern` is the pattern. `Plan` and `History` are
+//! lists, exactly, and a push with room left answers Ok.
 #![tactic(auto)]
 
 mod cut;

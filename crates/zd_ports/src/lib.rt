@@ -1,4 +1,12 @@
 //! Where scripts come from, where reports go, and what goes on step by step between the two.
+//!
+//! # What is proved
+//!
+//! `MemSource` and `MemSink` give and take exactly their bytes, and fail exactly where listed
+//! (the sink else only past its room). `StdSource` and `StdSink` pass on what std tells.
+//! `write_all` hands out all bytes, or fails with a prefix of them taken (`Takes`), and only
+//! where the sink failed. `is_option` tells whether a word begins with a minus and isn't a minus
+//! alone.
 #![tactic(auto)]
 
 mod faults;

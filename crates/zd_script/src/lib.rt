@@ -1,4 +1,10 @@
 //! Scripts: their bytes from a source, and the plan that their lines write.
+//!
+//! # What is proved
+//!
+//! `parse` answers the plan of a script, and else the first line that breaks a rule with the
+//! first rule that it breaks (`RefusesScript`). `read_all` answers all bytes of a source, and
+//! `TooLong` only past the limit.
 #![tactic(auto)]
 
 mod fault;

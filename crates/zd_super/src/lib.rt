@@ -1,4 +1,10 @@
 //! Super blocks: the head of a set of metadata as a block of 4096 bytes, and the crc that guards it.
+//!
+//! # What is proved
+//!
+//! `decode` answers the record, or the first rule that is broken, exactly as `decoded` says, of
+//! version 1 or 2. `encode` writes `block_of`, the one block of a record that fits its version
+//! (`FitsVersion`, its condition). `crc32_le` is the definition by bits.
 #![tactic(auto)]
 
 mod block;
