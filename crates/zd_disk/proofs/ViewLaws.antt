@@ -1,140 +1,42 @@
--- How what calls make of a disk composes, one call after another.
-use Rattle.std.proofs.Common.{◌≡◌, Option, Some, None, IsSome, ℕ, ◌+◌, ◌-◌, ◌^◌, ◌<◌, ◌≤◌, inl, inr, refl, sym, ◌∙◌, subst, arith}
+-- What a stop may leave after any number of calls, one after another.
+use Rattle.std.proofs.Common.{◌≡◌, Some, ℕ, ◌+◌, ◌-◌, ◌^◌, ◌<◌, ◌≤◌, inl, inr, sym, ◌∙◌, subst}
+use Rattle.std.proofs.Common.{arith}
 use Rattle.std.proofs.lemmas.Bool.{cases_lt}
 use Rattle.zd_base.specs.Geometry.{Shape}
 use Rattle.zd_model.specs.Image.{Image, IsImage, Same}
-use Rattle.zd_disk.specs.Told.{Both, WhereTold}
-use Rattle.zd_disk.specs.View.{View, Calls, Holds, IsDurable, Keeps, Made, MadeReads, OnlyReads, Reaches, ReachesBy, ReadsNone, ReadsOnce, Stays, Turns}
+use Rattle.zd_disk.specs.View.{View, Calls, Holds, IsDurable, Keeps, OnlyReads, Reaches, ReachesBy}
+use Rattle.zd_disk.specs.View.{Turns}
 use Rattle.zd_disk.proofs.SameSteps.{Same-refl}
-use Rattle.zd_disk.proofs.ToldLaws.{Some-same}
-
--- a disk of this geometry reads as this image
-pub record IsReadAs (g : Shape) (v : View) (i : Image) : Type 0 where
-  pub is : v.zones ≡ Some i
-  pub image : IsImage i
-  pub geometry : i.geometry ≡ g
-
-pub read_as : {g : Shape} {v : View} → v.told ≡ Some g → (i : Image) → v.zones ≡ Some i → IsReadAs g v i
-read_as {g} {v} told i e = record {
-  is = e;
-  image = v.shaped i e;
-  geometry = Some-same i.geometry g (sym (v.agrees i e) ∙ told);
-}
+use Rattle.zd_disk.proofs.ToldLaws.{Both-by, Both-get, Both-join, Some-same}
+pub use Rattle.zd_disk.proofs.TurnLaws.{IsReadAs, read_as, turned, turned_back, turns_as}
+pub use Rattle.zd_disk.proofs.TurnLaws.{turns_then, turns_with, turns_here, read_turns, turns_read}
+pub use Rattle.zd_disk.proofs.TurnLaws.{Then, turns_both, reads_then, stays_then, called, made_then}
+pub use Rattle.zd_disk.proofs.TurnLaws.{read_once, reads_between, durable_read, holds_durable}
+pub use Rattle.zd_disk.proofs.TurnLaws.{holds_as}
 
 -- a way in which images of a geometry change: to hold the same is one, and one after another
 pub record IsWay (g : Shape) (R : Image → Image → Type 0) : Type 0 where
   pub same : (a b : Image) → IsImage a → a.geometry ≡ g → Same a b → R a b
   pub then : (a b c : Image) → R a b → R b c → R a c
 
--- Turns
-
-Both-get : (o n : Option Image) (P : Image → Image → Type 0) (i : Image) → Both o n P → o ≡ Some i
-    → (j : Image) × (n ≡ Some j) × P i j
-Both-get None None P i h e = absurd (let f : ⊥ = cc in f)
-Both-get None (Some j) P i h e = absurd h
-Both-get (Some k) None P i h e = absurd h
-Both-get (Some k) (Some j) P i h e = (j, refl, subst (λ (m : Image). P m j) (Some-same k i e) h)
-
-Both-by : (o n : Option Image) (P Q : Image → Image → Type 0)
-    → ((i j : Image) → o ≡ Some i → n ≡ Some j → P i j → Q i j) → Both o n P → Both o n Q
-Both-by None None P Q f h = tt
-Both-by None (Some j) P Q f h = absurd h
-Both-by (Some i) None P Q f h = absurd h
-Both-by (Some i) (Some j) P Q f h = f i j refl refl h
-
-Both-join : (o m n : Option Image) (P Q R : Image → Image → Type 0)
-    → ((i j k : Image) → o ≡ Some i → m ≡ Some j → n ≡ Some k → P i j → Q j k → R i k) → Both o m P → Both m n Q → Both o n R
-Both-join None None None P Q R f h k = tt
-Both-join None None (Some c) P Q R f h k = absurd k
-Both-join None (Some b) n P Q R f h k = absurd h
-Both-join (Some a) None n P Q R f h k = absurd h
-Both-join (Some a) (Some b) None P Q R f h k = absurd k
-Both-join (Some a) (Some b) (Some c) P Q R f h k = f a b c refl refl refl h k
-
-Both-at-once : (o : Option Image) (P : Image → Image → Type 0) → ((i : Image) → o ≡ Some i → P i i) → Both o o P
-Both-at-once None P f = tt
-Both-at-once (Some i) P f = f i refl
-
-pub turned : {P : Image → Image → Type 0} {u v : View} → Turns P u v → (i : Image) → u.zones ≡ Some i → (j : Image) × (v.zones ≡ Some j) × P i j
-turned {P} {u} {v} h i e = Both-get u.zones v.zones P i h.reads e
-
-pub turns_as : {P R : Image → Image → Type 0} {u v : View} {g : Shape} → u.told ≡ Some g → ((a b : Image) → IsReadAs g u a → IsImage b → P a b → R a b)
-    → Turns P u v → Turns R u v
-turns_as {P} {R} {u} {v} told f h = record {
-  reads = Both-by u.zones v.zones P R (λ a b e n p. f a b (read_as told a e) (v.shaped b n) p) h.reads;
-}
-
-pub turns_then : {P Q R : Image → Image → Type 0} {u v w : View} {g : Shape} → u.told ≡ Some g
-    → ((a b c : Image) → IsReadAs g u a → IsImage b → IsImage c → P a b → Q b c → R a c)
-    → Turns P u v → Turns Q v w → Turns R u w
-turns_then {P} {Q} {R} {u} {v} {w} told f h k = record {
-  reads = Both-join u.zones v.zones w.zones P Q R
-      (λ a b c e m n p q. f a b c (read_as told a e) (v.shaped b m) (w.shaped c n) p q) h.reads k.reads;
-}
-
-pub turns_with : {P Q R : Image → Image → Type 0} {u v w : View}
-    → ((a b c : Image) → u.zones ≡ Some a → v.zones ≡ Some b → IsImage c → P a b → Q b c → R a c)
-    → Turns P u v → Turns Q v w → Turns R u w
-turns_with {P} {Q} {R} {u} {v} {w} f h k = record {
-  reads = Both-join u.zones v.zones w.zones P Q R (λ a b c e m n p q. f a b c e m (w.shaped c n) p q) h.reads k.reads;
-}
-
--- no call, on a disk that reads so already
-pub turns_here : {R : Image → Image → Type 0} {u : View} → ((i : Image) → u.zones ≡ Some i → R i i) → Turns R u u
-turns_here {R} {u} f = record { reads = Both-at-once u.zones R f }
-
--- behind and before calls that only read
-pub read_turns : {Q : Image → Image → Type 0} {u v w : View} → OnlyReads u v → Turns Q v w → Turns Q u w
-read_turns {Q} {u} {v} {w} reads h = record { reads = subst (λ (o : Option Image). Both o w.zones Q) reads.zones h.reads }
-
-pub turns_read : {P : Image → Image → Type 0} {u v w : View} → Turns P u v → OnlyReads v w → Turns P u w
-turns_read {P} {u} {v} {w} h reads = record { reads = subst (λ (o : Option Image). Both u.zones o P) (sym reads.zones) h.reads }
-
--- one change after another, with the image between them
-abbrev pub Then : (Image → Image → Type 0) → (Image → Image → Type 0) → Image → Image → Type 0
-Then P Q a c = (b : Image) × P a b × Q b c
-
-pub turns_both : {P Q : Image → Image → Type 0} {u v w : View} → Turns P u v → Turns Q v w → Turns (Then P Q) u w
-turns_both {P} {Q} {u} {v} {w} h k = record {
-  reads = Both-join u.zones v.zones w.zones P Q (Then P Q) (λ a b c e m n p q. (b, p, q)) h.reads k.reads;
-}
-
--- OnlyReads
-
-pub reads_then : {u v w : View} → OnlyReads u v → OnlyReads v w → OnlyReads u w
-reads_then h k = record {
-  stays = record {
-    told = λ g e. k.stays.told g (h.stays.told g e);
-    later = let a = h.stays.later in let b = k.stays.later in omega arith;
-    read_calls = let a = h.stays.read_calls in let b = k.stays.read_calls in omega arith;
-  };
-  zones = k.zones ∙ h.zones;
-  calls = k.calls ∙ h.calls;
-  left = record {
-    only = λ n i can. h.left.only n i (k.left.only n i can);
-    kept = λ n i can. k.left.kept n i (h.left.kept n i can);
-  };
-}
-
 -- Reaches
-
-pub stays_then : {u v w : View} → Stays u v → Stays v w → Stays u w
-stays_then h k = record {
-  told = λ g e. k.told g (h.told g e);
-  later = let a = h.later in let b = k.later in omega arith;
-  read_calls = let a = h.read_calls in let b = k.read_calls in omega arith;
-}
 
 pub told_is : {g : Shape} (v : View) → v.told ≡ Some g → (k : ℕ) (i : Image) → k ≤ v.calls → v.left k i → i.geometry ≡ g
 told_is {g} v told k i low can = Some-same i.geometry g (sym (v.leaves k i low can).1 ∙ told)
 
 -- in other words, where this holds of the images before
-pub reaches_where : {P R : Image → Image → Type 0} {A : Image → Type 0} {u v : View} {g : Shape} → u.told ≡ Some g → Holds A u
-    → ((a b : Image) → A a → a.geometry ≡ g → IsImage a → IsImage b → P a b → R a b) → Reaches P u v → Reaches R u v
+pub reaches_where : {P R : Image → Image → Type 0} {A : Image → Type 0} {u v : View} {g : Shape}
+    → u.told ≡ Some g → Holds A u
+    → ((a b : Image) → A a → a.geometry ≡ g → IsImage a → IsImage b → P a b → R a b)
+    → Reaches P u v → Reaches R u v
 reaches_where {P} {R} {A} {u} {v} told holds f h = record {
   stays = h.stays;
   order = h.order;
-  reads = record { reads = Both-by u.zones v.zones P R (λ a b e n p. let is = read_as {v = u} told a e in f a b (holds.now a e) is.geometry is.image (v.shaped b n) p) h.reads.reads };
+  reads = record {
+    reads = Both-by u.zones v.zones P R (λ a b e n p. (
+        let is = read_as {v = u} told a e in
+        f a b (holds.now a e) is.geometry is.image (v.shaped b n) p)) h.reads.reads;
+  };
   left = λ low i e. (
       let leaves = h.left low i e in
       let under : u.calls < 2 ^ 64 - 1 = omega (arith, h.order) in
@@ -151,15 +53,21 @@ reaches_where {P} {R} {A} {u} {v} told holds f h = record {
 
 pub reaches_as : {P R : Image → Image → Type 0} {u v : View} {g : Shape} → u.told ≡ Some g
     → ((a b : Image) → a.geometry ≡ g → IsImage a → IsImage b → P a b → R a b) → Reaches P u v → Reaches R u v
-reaches_as told f h = reaches_where {A = λ _. Unit {0}} told (record { now = λ _ _. tt; left = λ _ _ _. tt }) (λ a b _ shape image after p. f a b shape image after p) h
+reaches_as told f h =
+    reaches_where {A = λ _. Unit {0}} told (record { now = λ _ _. tt; left = λ _ _ _. tt })
+    (λ a b _ shape image after p. f a b shape image after p) h
 
 -- one after another
-pub reaches_then : {P Q R : Image → Image → Type 0} {u v w : View} → ((a b : Image) → P a b → R a b) → ((a b c : Image) → P a b → Q b c → R a c)
+pub reaches_then : {P Q R : Image → Image → Type 0} {u v w : View} → ((a b : Image) → P a b → R a b)
+    → ((a b c : Image) → P a b → Q b c → R a c)
     → Reaches P u v → Reaches Q v w → Reaches R u w
 reaches_then {P} {Q} {R} {u} {v} {w} first join h k = record {
   stays = stays_then h.stays k.stays;
   order = let a = h.order in let b = k.order in omega arith;
-  reads = record { reads = Both-join u.zones v.zones w.zones P Q R (λ a b c e m n p q. join a b c p q) h.reads.reads k.reads.reads };
+  reads = record {
+    reads = Both-join u.zones v.zones w.zones P Q R (λ a b c e m n p q. join a b c p q) h.reads.reads
+        k.reads.reads;
+  };
   left = λ low i e. (
       let there = Both-get u.zones v.zones P i h.reads.reads e in
       let one = h.left (omega (arith, low, k.order)) i e in
@@ -179,7 +87,8 @@ reaches_then {P} {Q} {R} {u} {v} {w} first join h k = record {
 }
 
 -- behind and before calls that only read
-pub read_reaches : {Q : Image → Image → Image → Type 0} {u v w : View} → OnlyReads u v → ReachesBy Q v w → ReachesBy Q u w
+pub read_reaches : {Q : Image → Image → Image → Type 0} {u v w : View}
+    → OnlyReads u v → ReachesBy Q v w → ReachesBy Q u w
 read_reaches {Q} {u} {v} {w} reads h = record {
   stays = stays_then reads.stays h.stays;
   order = omega (arith, reads.calls, h.order);
@@ -193,7 +102,8 @@ read_reaches {Q} {u} {v} {w} reads h = record {
       });
 }
 
-pub reaches_read : {P : Image → Image → Image → Type 0} {u v w : View} → ReachesBy P u v → OnlyReads v w → ReachesBy P u w
+pub reaches_read : {P : Image → Image → Image → Type 0} {u v w : View}
+    → ReachesBy P u v → OnlyReads v w → ReachesBy P u w
 reaches_read {P} {u} {v} {w} h reads = record {
   stays = stays_then h.stays reads.stays;
   order = omega (arith, reads.calls, h.order);
@@ -202,12 +112,14 @@ reaches_read {P} {u} {v} {w} h reads = record {
       let leaves = h.left (omega (arith, low, reads.calls)) i e in
       record {
         earlier = λ k b under can. leaves.earlier k b under (reads.left.only k b can);
-        each = λ k b above below can. leaves.each k b above (omega (arith, below, reads.calls)) (reads.left.only k b can);
+        each = λ k b above below can.
+            leaves.each k b above (omega (arith, below, reads.calls)) (reads.left.only k b can);
       });
 }
 
 -- one writing call
-pub reaches_call : {R : Image → Image → Type 0} {u v : View} {begun : Image → Image → Image → Type 0} {ended : Image → Image → Image → Image → Type 0} {g : Shape}
+pub reaches_call : {R : Image → Image → Type 0} {u v : View} {begun : Image → Image → Image → Type 0}
+    {ended : Image → Image → Image → Image → Type 0} {g : Shape}
     → u.told ≡ Some g → Calls begun ended u v → Turns R u v
     → ((old a b : Image) → a.geometry ≡ g → IsImage a → IsImage b → begun old a b → R a b)
     → ((old now a b : Image) → a.geometry ≡ g → IsImage a → IsImage b → ended old now a b → R a b) → Reaches R u v
@@ -224,12 +136,20 @@ reaches_call {R} {u} {v} {begun} {ended} {g} told call turns first second = reco
         each = λ k b above below can. elim (cases_lt u.calls k) [
           | inl over ↦
               let at = subst (λ (n : ℕ). v.left n b) (let f : k ≡ u.calls + 1 = omega arith in f) can in
-              let here = now.2.returned b at in
-              (here.0, here.1, second i now.0 here.0 b (told_is u told u.calls here.0 (omega arith) here.1) (is here.0 here.1) (v.leaves k b below can).0 here.2)
+              let here = now.2.returned b at in (
+                here.0,
+                here.1,
+                second i now.0 here.0 b (told_is u told u.calls here.0 (omega arith) here.1)
+                    (is here.0 here.1) (v.leaves k b below can).0 here.2,
+              )
           | inr under ↦
               let at = subst (λ (n : ℕ). v.left n b) (let f : k ≡ u.calls = omega arith in f) can in
-              let here = now.2.under_way b at in
-              (here.0, here.1, first i here.0 b (told_is u told u.calls here.0 (omega arith) here.1) (is here.0 here.1) (v.leaves k b below can).0 here.2)
+              let here = now.2.under_way b at in (
+                here.0,
+                here.1,
+                first i here.0 b (told_is u told u.calls here.0 (omega arith) here.1)
+                    (is here.0 here.1) (v.leaves k b below can).0 here.2,
+              )
         ];
       });
 }
@@ -256,9 +176,11 @@ module _ {R : Image → Image → Type 0} {g : Shape} (way : IsWay g R) where
   pub way_then : {u v w : View} → Reaches R u v → Reaches R v w → Reaches R u w
   way_then h k = reaches_then (λ a b p. p) way.then h k
 
-  pub way_flush : {u v w : View} → u.told ≡ Some g → Reaches R u v → Turns Same v w → Calls (λ _. Same) (λ _ _. Same) v w → Reaches R u w
+  pub way_flush : {u v w : View} → u.told ≡ Some g → Reaches R u v → Turns Same v w
+      → Calls (λ _. Same) (λ _ _. Same) v w → Reaches R u w
   way_flush {u} {v} {w} told h same call =
-      way_then h (reaches_as (h.stays.told g told) (λ a b shape image after p. way.same a b image shape p) (reaches_flush same call))
+      way_then h (reaches_as (h.stays.told g told) (λ a b shape image after p. way.same a b image shape p)
+      (reaches_flush same call))
 
   -- and from what the disk reads as, where a stop would have left that alone
   pub from_durable : {u v : View} → Reaches R u v → IsDurable u → v.calls < 2 ^ 64 - 1 → (a : Image) → IsReadAs g u a
@@ -268,7 +190,8 @@ module _ {R : Image → Image → Type 0} {g : Shape} (way : IsWay g R) where
       way.then a one.0 i
       (way.same a one.0 is.image is.geometry (durable.left (omega (arith, low, h.order)) a is.is one.0 one.1)) one.2
 
-  pub keeps_first : {u v : View} {P : Image → Image → Type 0} → u.told ≡ Some g → ((a b : Image) → IsReadAs g u a → IsImage b → R a b → P a b)
+  pub keeps_first : {u v : View} {P : Image → Image → Type 0} → u.told ≡ Some g
+      → ((a b : Image) → IsReadAs g u a → IsImage b → R a b → P a b)
       → Reaches R u v → Keeps P u v
   keeps_first {u} {v} {P} told f h = record {
     reads = turns_as told f h.reads;
@@ -278,7 +201,8 @@ module _ {R : Image → Image → Type 0} {g : Shape} (way : IsWay g R) where
   }
 
   -- behind others, after which a stop leaves what the disk reads as
-  pub keeps_then : {u v : View} {P M : Image → Image → Type 0} {o : View} → u.told ≡ Some g → o.told ≡ Some g → Keeps P o u → Turns M o u → o.calls ≤ u.calls
+  pub keeps_then : {u v : View} {P M : Image → Image → Type 0} {o : View} → u.told ≡ Some g
+      → o.told ≡ Some g → Keeps P o u → Turns M o u → o.calls ≤ u.calls
       → (IsDurable o → IsDurable u) → ((a b c : Image) → IsReadAs g o a → IsImage c → M a b → R b c → P a c)
       → Reaches R u v → Keeps P o v
   keeps_then {u} {v} {P} {M} {o} told first before turns order durable f h = record {
@@ -293,66 +217,6 @@ module _ {R : Image → Image → Type 0} {g : Shape} (way : IsWay g R) where
         ]);
   }
 
--- counts of writing calls
-
-pub called : {begun : Image → Image → Image → Type 0} {ended : Image → Image → Image → Image → Type 0} {u v : View}
-    → Calls begun ended u v → Made 1 u v
-called call = record { number_is = λ low. omega (arith, low, call.calls) }
-
-pub made_then : {m n : ℕ} {u v w : View} → v.calls ≤ w.calls → Made m u v → Made n v w → Made (m + n) u w
-made_then {m} {n} {u} {v} {w} order h k = record {
-  number_is = λ low. omega (arith, low, order, h.number_is (omega (arith, low, order)), k.number_is low);
-}
-
--- counts of reading calls
-
--- one more
-pub read_once : {u v w : View} {m n : ℕ} → m ≡ n + 1 → MadeReads n u v → ReadsOnce v w → MadeReads m u w
-read_once e made once = record { number_is = λ low. omega (arith, e, low, once, made.number_is (omega (arith, once, low))) }
-
--- those of other calls before and after
-pub reads_between : {s t u v : View} {n : ℕ} → ReadsNone s t → MadeReads n t u → ReadsNone u v → MadeReads n s v
-reads_between before made after = record {
-  number_is = λ low. omega (arith, before, after, made.number_is (omega (arith, after, low)));
-}
-
--- what reads leave durable is
-pub durable_read : {u v : View} → OnlyReads u v → IsDurable u → IsDurable v
-durable_read {u} {v} reads durable = record {
-  left = λ low i e other can. durable.left (omega (arith, low, reads.calls)) i (sym reads.zones ∙ e) other
-      (subst (λ (n : ℕ). u.left n other) reads.calls (reads.left.only v.calls other can));
-}
-
-Some-get : {X : Type 0} (o : Option X) → IsSome o → (x : X) × (o ≡ Some x)
-Some-get None h = absurd (let f : ⊥ = cc in f)
-Some-get (Some x) h = (x, refl)
-
--- what holds of what the disk reads as holds of what a stop leaves, where that is the same
-pub holds_durable : {P : Image → Type 0} {v : View} {g : Shape} → v.told ≡ Some g → IsDurable v
-    → ((a b : Image) → a.geometry ≡ g → IsImage a → Same a b → P a → P b) → WhereTold v.zones P → Holds P v
-holds_durable {P} {v} told durable f now = record {
-  now = now;
-  left = λ low b can. (
-      let there = Some-get v.zones (v.leaves v.calls b (omega arith) can).2 in
-      let is = read_as {v = v} told there.0 there.1 in
-      f there.0 b is.geometry is.image (durable.left low there.0 there.1 b can) (now there.0 there.1));
-}
-
--- in other words
-pub holds_as : {P Q : Image → Type 0} {v : View} → ((i : Image) → P i → Q i) → Holds P v → Holds Q v
-holds_as f h = record { now = λ i e. f i (h.now i e); left = λ low i can. f i (h.left low i can) }
-
-Both-back : (o n : Option Image) (P : Image → Image → Type 0) (j : Image) → Both o n P → n ≡ Some j
-    → (i : Image) × (o ≡ Some i) × P i j
-Both-back None None P j h e = absurd (let f : ⊥ = cc in f)
-Both-back None (Some k) P j h e = absurd h
-Both-back (Some i) None P j h e = absurd h
-Both-back (Some i) (Some k) P j h e = (i, refl, subst (P i) (Some-same k j e) h)
-
-pub turned_back : {P : Image → Image → Type 0} {u v : View} → Turns P u v → (j : Image) → v.zones ≡ Some j
-    → (i : Image) × (u.zones ≡ Some i) × P i j
-turned_back {P} {u} {v} h j e = Both-back u.zones v.zones P j h.reads e
-
 -- Ways that depend on what the disk first read as
 
 pub by_as : {P R : Image → Image → Image → Type 0} {u v : View} → ((i a b : Image) → P i a b → R i a b)
@@ -363,7 +227,8 @@ by_as {P} {R} {u} {v} f h = record {
   reads = record { reads = Both-by u.zones v.zones (λ i. P i i) (λ i. R i i) (λ a b e n p. f a a b p) h.reads.reads };
   left = λ low i e. record {
     earlier = (h.left low i e).earlier;
-    each = λ k b above below can. let one = (h.left low i e).each k b above below can in (one.0, one.1, f i one.0 b one.2);
+    each = λ k b above below can.
+        let one = (h.left low i e).each k b above below can in (one.0, one.1, f i one.0 b one.2);
   };
 }
 
@@ -389,21 +254,27 @@ by_then {P} {Q} {R} {u} {v} {w} first join h k = record {
               (here.0, here.1, first i here.0 b here.2)
           | inr late ↦
               let here = two.each n b late below can in
-              let before = one.each v.calls here.0 h.order (omega arith) here.1 in
-              (before.0, before.1, join i there.0 before.0 here.0 b e there.1 (w.leaves n b below can).0 there.2 before.2 here.2)
+              let before = one.each v.calls here.0 h.order (omega arith) here.1 in (
+                before.0,
+                before.1,
+                join i there.0 before.0 here.0 b e there.1 (w.leaves n b below can).0 there.2
+                    before.2 here.2,
+              )
         ];
       });
 }
 
 -- what keeps what the disk reads as, where a stop would have left that alone, leaves nothing else
-pub by_kept : {P R : Image → Image → Type 0} {u v : View} → IsDurable u → Keeps P u v → Reaches R u v → ReachesBy (λ i _ b. P i b) u v
+pub by_kept : {P R : Image → Image → Type 0} {u v : View} → IsDurable u → Keeps P u v → Reaches R u v
+    → ReachesBy (λ i _ b. P i b) u v
 by_kept {P} {R} {u} {v} durable kept h = record {
   stays = h.stays;
   order = h.order;
   reads = kept.reads;
   left = λ low i e. record {
     earlier = (h.left low i e).earlier;
-    each = λ k b above below can. (i, u.reads i (omega (arith, low, h.order)) e, kept.left low durable i e k b above below can);
+    each = λ k b above below can.
+        (i, u.reads i (omega (arith, low, h.order)) e, kept.left low durable i e k b above below can);
   };
 }
 
@@ -411,7 +282,9 @@ by_kept {P} {R} {u} {v} durable kept h = record {
 pub kept_by : {R : Image → Image → Image → Type 0} {P : Image → Image → Type 0} {u v : View}
     → ((i a b : Image) → u.zones ≡ Some i → Same i a → R i a b → P i b) → ReachesBy R u v → Keeps P u v
 kept_by {R} {P} {u} {v} f h = record {
-  reads = record { reads = Both-by u.zones v.zones (λ i. R i i) P (λ a b e n p. f a a b e (Same-refl a) p) h.reads.reads };
+  reads = record {
+    reads = Both-by u.zones v.zones (λ i. R i i) P (λ a b e n p. f a a b e (Same-refl a) p) h.reads.reads;
+  };
   left = λ low durable i e k b above below can. (
       let one = (h.left low i e).each k b above below can in
       f i one.0 b e (durable.left (omega (arith, low, h.order)) i e one.0 one.1) one.2);
@@ -432,6 +305,7 @@ by_none {R} {u} f = record {
   reads = turns_here (λ i e. f i i);
   left = λ low i e. record {
     earlier = λ k b under can. can;
-    each = λ k b above below can. (b, subst (λ (n : ℕ). u.left n b) (let at : k ≡ u.calls = omega arith in at) can, f i b);
+    each = λ k b above below can.
+        (b, subst (λ (n : ℕ). u.left n b) (let at : k ≡ u.calls = omega arith in at) can, f i b);
   };
 }

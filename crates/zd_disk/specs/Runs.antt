@@ -7,8 +7,8 @@ use Rattle.zd_base.specs.Geometry.{Shape}
 abbrev pub blocks_in : List ℕ → ℕ
 blocks_in bytes = length bytes / 4096
 
--- of the blocks from block `from` on, counted from the start of a zone, a run begins with the first one and with
--- the first of each zone, and 32 blocks after each such one in its zone
+-- of the blocks from block `from` on, counted from the start of a zone, a run begins with the first
+-- one and with the first of each zone, and 32 blocks after each such one in its zone
 abbrev pub starts_run : Shape → ℕ → ℕ → Bool
 starts_run g from k = (k - max from (k - k % g.zone_blocks)) % 32 == 0
 

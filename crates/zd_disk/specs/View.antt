@@ -15,7 +15,8 @@ pub record View : Type 1 where
   pub calls : ℕ
   -- how many reading calls have returned, `read` and `report`; it stays at 2^64 - 1 too
   pub read_calls : ℕ
-  -- the images that a stop may leave once so many writing calls have returned and the next may be under way
+  -- the images that a stop may leave once so many writing calls have returned and the next may be
+  -- under way
   pub left : ℕ → Image → Type 0
   -- how often the disk has failed
   pub faults : ℕ
@@ -23,7 +24,8 @@ pub record View : Type 1 where
   pub agrees : (i : Image) → zones ≡ Some i → told ≡ Some i.geometry
   pub shaped : (i : Image) → zones ≡ Some i → IsImage i
   -- what a stop may leave is an image of the told geometry, and is told only where the zones are
-  pub leaves : (k : ℕ) (i : Image) → k ≤ calls → left k i → IsImage i × (told ≡ Some i.geometry) × IsSome zones
+  pub leaves : (k : ℕ) (i : Image) → k ≤ calls → left k i →
+      IsImage i × (told ≡ Some i.geometry) × IsSome zones
   -- a stop may leave what the disk reads as
   pub reads : (i : Image) → calls < 2 ^ 64 - 1 → zones ≡ Some i → left calls i
 
@@ -55,31 +57,34 @@ pub record MadeReads (number : ℕ) (u v : View) : Type 0 where
 pub record Turns (R : Image → Image → Type 0) (u v : View) : Type 0 where
   pub reads : Both u.zones v.zones R
 
--- one writing call: while it is under way, and when it has returned, a stop leaves what could be left before
--- it, changed in these ways, which may depend on what the disk read as before and reads as now
-pub record Calls (begun : Image → Image → Image → Type 0) (ended : Image → Image → Image → Image → Type 0)
-    (u v : View) : Type 0 where
+-- one writing call: while it is under way, and when it has returned, a stop leaves what could be
+-- left before it, changed in these ways, which may depend on what the disk read as before and reads
+-- as now
+pub record Calls (begun : Image → Image → Image → Type 0)
+    (ended : Image → Image → Image → Image → Type 0) (u v : View) : Type 0 where
   pub stays : Stays u v
   pub calls : v.calls ≡ next_count u.calls
   pub read_calls : v.read_calls ≡ u.read_calls
   pub left : v.calls < 2 ^ 64 - 1 → Both u.zones v.zones (λ i j.
       Grows u.calls u.left v.left (begun i) (ended i j))
 
--- what a stop may leave from moment `from` on: what became in this way of an image that it could leave
--- then
+-- what a stop may leave from moment `from` on: what became in this way of an image that it could
+-- leave then
 pub record LeavesBy (R : Image → Image → Type 0) (from : ℕ) (past : ℕ → Image → Type 0)
     (until : ℕ) (now : ℕ → Image → Type 0) : Type 0 where
   pub earlier : (k : ℕ) (i : Image) → k < from → now k i → past k i
-  pub each : (k : ℕ) (i : Image) → from ≤ k → k ≤ until → now k i → (d : Image) × past from d × R d i
+  pub each : (k : ℕ) (i : Image) → from ≤ k → k ≤ until → now k i →
+      (d : Image) × past from d × R d i
 
--- any number of calls: what the disk reads as changed in this way, and so did each image that a stop may leave,
--- at any moment in between, of one that it could leave at first. The way may depend on what the disk first
--- read as, which comes before the two.
+-- any number of calls: what the disk reads as changed in this way, and so did each image that a
+-- stop may leave, at any moment in between, of one that it could leave at first. The way may depend
+-- on what the disk first read as, which comes before the two.
 pub record ReachesBy (R : Image → Image → Image → Type 0) (u v : View) : Type 0 where
   pub stays : Stays u v
   pub order : u.calls ≤ v.calls
   pub reads : Turns (λ i. R i i) u v
-  pub left : v.calls < 2 ^ 64 - 1 → WhereTold u.zones (λ i. LeavesBy (R i) u.calls u.left v.calls v.left)
+  pub left : v.calls < 2 ^ 64 - 1 → WhereTold u.zones (λ i.
+      LeavesBy (R i) u.calls u.left v.calls v.left)
 
 -- where it does not
 abbrev pub Reaches : (Image → Image → Type 0) → View → View → Type 0
@@ -87,15 +92,16 @@ Reaches R = ReachesBy (λ _. R)
 
 -- a stop may leave what the disk reads as alone
 pub record IsDurable (v : View) : Type 0 where
-  pub left : v.calls < 2 ^ 64 - 1 → WhereTold v.zones (λ i. (other : Image) → v.left v.calls other → Same i other)
+  pub left : v.calls < 2 ^ 64 - 1 → WhereTold v.zones (λ i.
+      (other : Image) → v.left v.calls other → Same i other)
 
 -- this holds of what the disk reads as, and of each image that a stop may now leave
 pub record Holds (P : Image → Type 0) (v : View) : Type 0 where
   pub now : WhereTold v.zones P
   pub left : v.calls < 2 ^ 64 - 1 → (i : Image) → v.left v.calls i → P i
 
--- what the disk reads as changed in this way; and where a stop would have left what it read as alone, so did
--- each image that a stop may leave at any moment in between
+-- what the disk reads as changed in this way; and where a stop would have left what it read as
+-- alone, so did each image that a stop may leave at any moment in between
 pub record Keeps (P : Image → Image → Type 0) (u v : View) : Type 0 where
   pub reads : Turns P u v
   pub left : v.calls < 2 ^ 64 - 1 → IsDurable u → WhereTold u.zones (λ old.

@@ -1,22 +1,25 @@
 //! The calls of a zoned disk, with what each needs, does and tells.
 
-ghost use Rattle.std.specs.Prelude.{◌≡◌, ◌+◌, ◌*◌, ◌<◌, ◌≤◌, Some, length, IfOk, OnOk, OnErr, IfSome, IsSomeAnd};
+ghost use Rattle.std.specs.Prelude.{◌≡◌, ◌+◌, ◌*◌, ◌<◌, ◌≤◌, Some, length, IfOk, OnOk, OnErr};
+ghost use Rattle.std.specs.Prelude.{IfSome, IsSomeAnd};
 ghost use Rattle.zd_base.specs.Geometry.{zone_sectors};
 ghost use Rattle.zd_model.specs.Image.{Same, run_of};
-ghost use Rattle.zd_disk.specs.Steps.{count_of, Wrote, WriteStep, WriteLeaves, WasReset, ResetStep, ResetLeaves};
+ghost use Rattle.zd_disk.specs.Steps.{count_of, Wrote, WriteStep, WriteLeaves, WasReset, ResetStep};
+ghost use Rattle.zd_disk.specs.Steps.{ResetLeaves};
 ghost use Rattle.zd_disk.specs.Told.{IsSequentialZone, IsInside};
-ghost use Rattle.zd_disk.specs.View.{View, Calls, Fails, IsDurable, OnlyReads, ReadsNone, ReadsOnce, Turns};
+ghost use Rattle.zd_disk.specs.View.{View, Calls, Fails, IsDurable, OnlyReads, ReadsNone};
+ghost use Rattle.zd_disk.specs.View.{ReadsOnce, Turns};
 
 use zd_base::{Failed, Geometry, ZoneNo};
 
 /// A disk of conventional and sequential zones. Places are sectors of 512 bytes inside a zone.
 ///
-/// A call fails only where the count of faults rose. Writing calls are `write`, `reset` and `flush`, reading
-/// calls `read` and `report`; both are counted, also where they fail.
+/// A call fails only where the count of faults rose. Writing calls are `write`, `reset` and
+/// `flush`, reading calls `read` and `report`; both are counted, also where they fail.
 ///
-/// Where a disk tells its zones, it also tells what a stop may leave of it, at each moment of its life:
-/// once so many writing calls have returned and the next may be under way. What is said of stops is said
-/// while the count of writing calls is below its end.
+/// Where a disk tells its zones, it also tells what a stop may leave of it, at each moment of its
+/// life: once so many writing calls have returned and the next may be under way. What is said of
+/// stops is said while the count of writing calls is below its end.
 pub trait ZonedDisk: Drop {
     /// What the disk tells now.
     ghost view: { Self → View };
@@ -44,7 +47,8 @@ pub trait ZonedDisk: Drop {
         requires whole { length into.old ≡ 512 * count_of into.old }
         requires some { 0 < count_of into.old }
         requires inside { IsSomeAnd (view self.old).told (IsInside zone start (count_of into.old)) }
-        requires below { IfSome (view self.old).zones (λ i. start + count_of into.old ≤ i.held zone) }
+        requires below { IfSome (view self.old).zones (λ i.
+            start + count_of into.old ≤ i.held zone) }
         ensures value { OnOk result (IfSome (view self.old).zones (λ i.
             into.new ≡ run_of (i.sector zone) start (count_of into.old))) }
         ensures read_calls { ReadsOnce (view self.old) (view self.new) }
@@ -58,10 +62,12 @@ pub trait ZonedDisk: Drop {
     fn write(&mut self, zone: ZoneNo, start: u32, bytes: &[u8]) -> Result<(), Failed>
         requires whole { length bytes.now ≡ 512 * count_of bytes.now }
         requires some { 0 < count_of bytes.now }
-        requires inside { IsSomeAnd (view self.old).told (IsInside zone start (count_of bytes.now)) }
+        requires inside { IsSomeAnd (view self.old).told
+            (IsInside zone start (count_of bytes.now)) }
         requires pointer { IfSome (view self.old).zones (λ i.
             i.geometry.conv ≤ zone → start ≡ i.held zone) }
-        ensures ok { OnOk result (Turns (Wrote zone start bytes.now) (view self.old) (view self.new)) }
+        ensures ok { OnOk result (Turns (Wrote zone start bytes.now)
+            (view self.old) (view self.new)) }
         ensures err { OnErr result (Turns (λ i. WriteStep i zone start bytes.now i)
             (view self.old) (view self.new)) }
         ensures call { Calls (λ i. WriteStep i zone start bytes.now)

@@ -1,9 +1,11 @@
 //! A disk in an image file.
 
-ghost use Rattle.std.specs.Prelude.{◌≡◌, ◌≤◌, ◌↔◌, Some, None, IsSome, IsOk, IfOk, OnOk, IfSome, IsSomeAnd};
+ghost use Rattle.std.specs.Prelude.{◌≡◌, ◌≤◌, ◌↔◌, Some, None, IsSome, IsOk, IfOk, OnOk, IfSome};
+ghost use Rattle.std.specs.Prelude.{IsSomeAnd};
 ghost use Rattle.std.proofs.lemmas.Option.{none-some};
 ghost use Rattle.zd_base.specs.Geometry.{zone_sectors};
-ghost use Rattle.zd_disk.specs.FileDisk.{EdgeAsks, CountsFaults, EdgeReads, EdgeWrites, IsSectorRun};
+ghost use Rattle.zd_disk.specs.FileDisk.{EdgeAsks, CountsFaults, EdgeReads, EdgeWrites};
+ghost use Rattle.zd_disk.specs.FileDisk.{IsSectorRun};
 ghost use Rattle.zd_disk.specs.Told.{IsSequentialZone};
 
 use crate::ZonedDisk;
@@ -15,10 +17,10 @@ use zd_base::{Failed, Geometry, ZoneNo};
 
 /// A disk in an image file, which tells nothing of its content.
 ///
-/// It trusts neither the file nor its callers: `Failed` is also the answer to a call at a wrong place,
-/// and to each call where the file couldn't be opened or its header is bad. Nothing is promised of a
-/// stop of the machine. Contracts see it as an `Edge`: the geometry where the file has a right header,
-/// and the counts of writing calls, reading calls and faults.
+/// It trusts neither the file nor its callers: `Failed` is also the answer to a call at a wrong
+/// place, and to each call where the file couldn't be opened or its header is bad. Nothing is
+/// promised of a stop of the machine. Contracts see it as an `Edge`: the geometry where the file
+/// has a right header, and the counts of writing calls, reading calls and faults.
 #[derive(Drop)]
 pub struct FileDisk<F> {
     image: Option<ImageFile<F>>,

@@ -7,8 +7,8 @@ use zd_base::Geometry;
 /// The most blocks that a call for metadata moves.
 pub const RUN_BLOCKS: u32 = 32;
 
-/// How many blocks the next call moves, where `block` is the next one, counted from the start of a zone:
-/// as many as there are up to `end` and up to the end of the zone, at most [`RUN_BLOCKS`].
+/// How many blocks the next call moves, where `block` is the next one, counted from the start of a
+/// zone: as many as there are up to `end` and up to the end of the zone, at most [`RUN_BLOCKS`].
 pub fn run_length(geometry: &Geometry, block: u32, end: u32) -> u32
     requires { block < end }
     ensures some { 0 < result }

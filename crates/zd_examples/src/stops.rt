@@ -3,8 +3,10 @@
 ghost use Rattle.std.specs.Prelude.{◌≡◌, None, Some};
 ghost use Rattle.zd_model.specs.Bytes.{zero_sector};
 ghost use Rattle.zd_model.specs.Plain.{pattern};
-ghost use Rattle.zd_model.specs.Stops.{MayHold, last_flush};
-ghost use Rattle.zd_examples.specs.Requests.{two_blocks};
+ghost use Rattle.zd_model.specs.Plain.Answer.{Done, Fault};
+ghost use Rattle.zd_model.specs.Stops.{AreBy, IsFlushAt, MayHold, last_flush};
+ghost use Rattle.zd_model.specs.declared.requests.What.TheVariants.{Flush, Write};
+ghost use Rattle.zd_examples.specs.Requests.{entry, two_blocks};
 ghost use Rattle.zd_examples.specs.Stops.{discarded_history, failed_discard, failed_history};
 ghost use Rattle.zd_examples.specs.Stops.{failed_write, past_history, rewritten_history, the_flush};
 ghost use Rattle.zd_examples.specs.Stops.{twice_flushed, written_sectors};
@@ -49,4 +51,14 @@ pub fn discard_examples()
     ensures not_yet { MayHold two_blocks discarded_history 3 0 zero_sector → ⊥ }
     ensures kept { MayHold two_blocks discarded_history 3 0 (pattern 1 0) }
     ensures failed { MayHold two_blocks failed_discard 5 0 zero_sector → ⊥ }
+{}
+
+/// When the entries of a history were made, and which of them are flushes that were done then.
+pub fn time_examples()
+    ensures by { AreBy 12 rewritten_history }
+    ensures later { AreBy 11 rewritten_history → ⊥ }
+    ensures flush { IsFlushAt 11 the_flush }
+    ensures moment { IsFlushAt 12 the_flush → ⊥ }
+    ensures failed { IsFlushAt 3 (entry 2 0 Flush Fault 3) → ⊥ }
+    ensures write { IsFlushAt 3 (entry 2 0 (Write 0 1 1) Done 3) → ⊥ }
 {}

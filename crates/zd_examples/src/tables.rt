@@ -3,6 +3,7 @@
 ghost use Rattle.std.specs.Prelude.{◌≡◌, [], ◌∷◌, ◌++◌, None, Some, length, map};
 ghost use Rattle.zd_model.specs.Bytes.{zero_sector};
 ghost use Rattle.zd_model.specs.Faults.{bad_bit, bad_chunk};
+ghost use Rattle.zd_model.specs.Places.{spot, zone_at};
 ghost use Rattle.zd_model.specs.Tables.{sector_of, served};
 ghost use Rattle.zd_examples.specs.Fresh.{buffered, fresh_layout, only, small, unmapped_entry};
 ghost use Rattle.zd_examples.specs.Tables.{buffer_alone, buffered_tables, place_sector, served_tables};
@@ -73,4 +74,13 @@ pub fn served_examples()
         ≡ (2 ∷ 0 ∷ []) ∷ (2 ∷ 127 ∷ []) ∷ [] }
     ensures zone_first { sector_of 16 (buffered_tables 1 1) place_sector 0 ≡ 6 ∷ 0 ∷ [] }
     ensures whole { length (served 16 served_tables place_sector) ≡ 384 }
+{}
+
+/// In which zone a sector of the logical device stands, and at which place in it.
+pub fn sector_place_examples()
+    ensures zones { map (zone_at 16 served_tables) (7 ∷ 8 ∷ 24 ∷ 128 ∷ 383 ∷ [])
+        ≡ Some 6 ∷ None ∷ Some 4 ∷ None ∷ Some 2 ∷ [] }
+    ensures zone_first { zone_at 16 (buffered_tables 1 1) 0 ≡ Some 6 }
+    ensures behind { zone_at 16 served_tables 384 ≡ None }
+    ensures spots { map (spot 16) (7 ∷ 8 ∷ 31 ∷ 128 ∷ 383 ∷ []) ≡ 7 ∷ 8 ∷ 31 ∷ 0 ∷ 127 ∷ [] }
 {}

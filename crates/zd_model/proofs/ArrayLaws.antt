@@ -1,6 +1,7 @@
 -- Arrays keep their length, and are read at an index after a write.
 use Rattle.std.proofs.Common.{◌≡◌, ℕ, ◌+◌, ◌-◌, ◌<◌, ◌≤◌, Bool, true, false, cond, not, ◌||◌, List, [], ◌∷◌, ◌++◌, length, map, take, drop, get_or, Option, Some, None, refl, ap, ap₂, ◌∙◌, arith, leb}
 use borrow.Author.Tests.{leb-true}
+use Rattle.std.proofs.lemmas.Bool.{le-leb}
 use Rattle.std.specs.List.{range_with_len, list_any}
 use Rattle.std.proofs.lemmas.List.{length-append, length-drop, length-take-le, get_or_append_left, get_or-append_right, get_or-take, get_or-drop}
 use Rattle.std.proofs.lemmas.List.FromFn.{length-map-range_with_len}
@@ -49,6 +50,10 @@ not_past last sectors h = leb-true last sectors (double (leb last sectors) h)
 pub ends_within : (sectors : ℕ) (what : What) → ends_past sectors what ≡ false
     → first_sector what + sector_count what ≤ sectors
 ends_within sectors what h = not_past (first_sector what + sector_count what) sectors h
+
+-- and the other way round
+pub ends_inside : (sectors : ℕ) (w : What) → first_sector w + sector_count w ≤ sectors → ends_past sectors w ≡ false
+ends_inside sectors w h = ap not (le-leb (first_sector w + sector_count w) sectors h)
 
 length-put : (array : List (List ℕ)) (first n : ℕ) (put : Option (ℕ → List ℕ)) → first + n ≤ length array
     → length (option_map_or (λ p. overwrite array first (map p (range_with_len first n))) put array) ≡ length array

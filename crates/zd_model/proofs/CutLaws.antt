@@ -1,8 +1,8 @@
 -- The pieces of a request cut it.
 use Rattle.std.proofs.Common.{◌≡◌, ℕ, zero, suc, ◌+◌, ◌-◌, ◌*◌, ◌/◌, ◌%◌, ◌<◌, ◌≤◌, min, max, Bool}
 use Rattle.std.proofs.Common.{true, false, List, [], ◌∷◌, map, refl, sym, ap, ap₂, ◌∙◌, arith, subst}
-use Rattle.std.proofs.Math.Nat.{mul-le-mul_left, le-div_iff_mul-le}
-use Rattle.std.proofs.lemmas.Nat.{div-mul-add}
+use Rattle.std.proofs.Math.Nat.{mod-lt, mul-le-mul_left, le-div_iff_mul-le}
+use Rattle.std.proofs.lemmas.Nat.{div-add-mod', div-mul-add}
 use Rattle.std.specs.List.{range_with_len, enumerate_from}
 use Rattle.zd_model.specs.Requests.{first_sector, sector_count, at_sectors, operation_of, Moves}
 use Rattle.zd_model.specs.Pieces.{part_of, parts_of, chunks_touched, pieces_of_request}
@@ -184,3 +184,18 @@ parts_past z blocks (Discard b n) past = rw past refl
 parts_past z blocks (ReadSectors i n) past = rw past refl
 parts_past z blocks (WriteSectors i n s) past = rw past refl
 parts_past z blocks Flush past = refl
+
+-- sectors whose first and last lie in one chunk
+pub in_one_chunk : (w b n : ℕ) → 1 ≤ w → 1 ≤ n → b / w ≡ (b + n - 1) / w → b % w + n ≤ w
+in_one_chunk w b n some full same =
+    let last : ℕ = b + n - 1 in
+    let low = div-add-mod' b w in
+    let high = div-add-mod' last w in
+    let rest : last % w < w = mod-lt last (omega arith) in
+    let chunk : b / w * w ≡ last / w * w = ap (λ q. q * w) same in
+    omega arith
+
+-- cuts go up
+pub cut_up : (z from to : ℕ) (parts : List What) → IsCut z from to parts → from ≤ to
+cut_up z from to [] h = omega arith
+cut_up z from to (p ∷ parts) h = let up = cut_up z (from + sector_count p) to parts h.3 in omega arith

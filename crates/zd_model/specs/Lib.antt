@@ -15,6 +15,8 @@ pub mod Cut
 pub mod History
 pub mod Entries
 pub mod Stops
+pub mod Places
+pub mod Safe
 pub mod Text
 pub mod Script
 pub mod Report

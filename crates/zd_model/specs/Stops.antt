@@ -2,7 +2,7 @@
 use Rattle.std.specs.Prelude.{◌≡◌, ◌⊎◌, ℕ, ◌+◌, ◌<◌, ◌≤◌, Bool, true, false, nat_le, ◌&&◌, List, []}
 use Rattle.std.specs.Prelude.{◌∷◌, if◌then◌else◌, length, slice_index_or, filter, Option, None}
 use Rattle.std.specs.Prelude.{IsSomeAnd}
-use Rattle.std.specs.List.{list_any, last_or}
+use Rattle.std.specs.List.{AllByRecursion, list_any, last_or}
 use Rattle.zd_model.specs.Bytes.{zero_sector}
 use Rattle.zd_model.specs.Requests.{first_sector, sector_count, operation_of, Operation}
 use Rattle.zd_model.specs.Requests.Operation.{Writing, Discarding}
@@ -13,6 +13,16 @@ use Rattle.zd_model.specs.declared.requests.What.TheVariants.{Flush}
 use Rattle.zd_model.specs.Plain.{Answer}
 use Rattle.zd_model.specs.Plain.Answer.{Done, Fault}
 use Rattle.zd_model.specs.History.{HistoryEntry}
+
+-- no entry was made later than when so many calls had returned
+abbrev pub AreBy : ℕ → List HistoryEntry → Type 0
+AreBy now history = AllByRecursion (λ e. e.at ≤ now) history
+
+-- a flush that was done when just so many calls had returned
+pub record IsFlushAt (at : ℕ) (e : HistoryEntry) : Type 0 where
+  pub flush : e.what ≡ Flush
+  pub done : e.reply ≡ Done
+  pub when : e.at ≡ at
 
 -- a flush that was done
 abbrev pub is_done_flush : What → Answer → Bool

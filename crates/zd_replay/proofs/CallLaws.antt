@@ -4,7 +4,8 @@ use Rattle.std.specs.List.{range_with_len}
 use Rattle.std.proofs.lemmas.Bool.{eq-eqb, ne_eqb}
 use Rattle.zd_disk.proofs.RunLaws.{count_none, count_then}
 use Rattle.zd_disk.specs.View.{MadeReads, View}
-use Rattle.zd_replay.specs.Run.{IsPlacedRun, IsRunRead, ReadsAt, begins_call, calls_of_read, is_same_place}
+use Rattle.zd_model.specs.Places.{IsPlacedRun}
+use Rattle.zd_replay.specs.Run.{IsRunRead, ReadsAt, begins_call, calls_of_read, is_same_place}
 
 same_place : (o : Option ℕ) → is_same_place o o ≡ true
 same_place None = refl

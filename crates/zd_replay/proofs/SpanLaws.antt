@@ -6,34 +6,8 @@ use Rattle.zd_model.specs.Bytes.{zero_sector}
 use Rattle.zd_model.specs.Image.{Image, run_of}
 use Rattle.zd_model.specs.Tables.{Tables}
 use Rattle.zd_model.specs.declared.metadata.MapEntry.{MapEntry}
-use Rattle.zd_replay.specs.Run.{chunk_sector, chunk_sectors, place_in, sector_in}
+use Rattle.zd_model.specs.Places.{chunk_sector, chunk_sectors, place_in, sector_in}
 use Rattle.zd_sets.proofs.BlockLaws.{run_then}
-
--- what is the same at each place is the same joined
-pub same_joined : (f g : ℕ → List ℕ) (a b n : ℕ) → ((i : ℕ) → i < n → f (a + i) ≡ g (b + i)) → run_of f a n ≡ run_of g b n
-same_joined f g a b zero same = refl
-same_joined f g a b (suc n) same =
-    ap₂ (λ (xs ys : List ℕ). xs ++ ys)
-    (ap f (let e : a ≡ a + 0 = omega arith in e) ∙ same 0 (omega arith) ∙ ap g (let e : b + 0 ≡ b = omega arith in e))
-    (same_joined f g (a + 1) (b + 1) n (λ i low. ap f (let e : a + 1 + i ≡ a + (1 + i) = omega arith in e) ∙ same (1 + i) (omega arith)
-    ∙ ap g (let e : b + (1 + i) ≡ b + 1 + i = omega arith in e)))
-
--- sectors of blocks with a place are those of its zone
-module _ (t : Tables) (e : MapEntry) (image : Image) (place : Option ℕ) (first stop at n : ℕ) (low : 8 * first ≤ at) (high : at + n ≤ 8 * stop)
-    (all : (x : ℕ) → first ≤ x → x < stop → place_in t e x ≡ place) where
-  pub span_is : run_of (sector_in place image) at n ≡ chunk_sectors t e image at n
-  span_is =
-      same_joined (sector_in place image) (chunk_sector t e image) at at n
-      (λ i few. ap (λ (o : Option ℕ). sector_in o image (at + i)) (sym (all ((at + i) / 8) (omega arith) (omega arith))))
-
--- sectors of zeros
-pub zero_joined : (a n : ℕ) → run_of (λ x. zero_sector) a n ≡ replicate (512 * n) 0
-unfolding zero_sector
-zero_joined a zero = refl
-zero_joined a (suc n) =
-    ap (λ (xs : List ℕ). replicate 512 0 ++ xs) (zero_joined (a + 1) n)
-    ∙ replicate-append-replicate 512 (512 * n) 0
-    ∙ ap (λ (k : ℕ). replicate k 0) (let e : 512 + 512 * n ≡ 512 * suc n = omega arith in e)
 
 -- n of the m sectors of zeros that stand from `start` on
 module _ (into : List ℕ) (start n m : ℕ) (zeros : drop start into ≡ replicate (512 * m) 0) (few : n ≤ m) where
