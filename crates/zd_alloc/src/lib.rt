@@ -2,7 +2,11 @@
 #![tactic(auto)]
 
 mod alloc;
+mod candidates;
+mod class_trees;
 mod flags;
+mod job_class;
+mod least_tree;
 mod links;
 mod order;
 mod uses;
@@ -10,6 +14,8 @@ mod words;
 mod zones;
 
 pub use alloc::Alloc;
+pub use candidates::Candidates;
+pub use job_class::JobClass;
 pub use uses::ZoneUse;
 
 #[cfg(test)]
