@@ -26,21 +26,33 @@ times_left : (chunk c : ℕ) (xs : List ℕ) → c ≢ chunk → times c (withou
 times_left chunk c [] ne = refl
 times_left chunk c (x ∷ xs) ne = let rest = times_left chunk c xs ne in grind (arith, nat_tests)
 
--- the numbers of all chunks keep their order, and one chunk has a greater one than all then
-module _ (chunk number : ℕ) (old mid : List ℕ) (keeps : KeepsRising old mid) (above : (c : ℕ) → c < length mid → slice_index mid c < number) (inside : chunk < length old) where
+-- numbers that keep their order are in the order in which they were
+pub still_in_order : (order old new : List ℕ) → KeepsRising old new → IsInOrder order old → IsInOrder order new
+still_in_order order old new keeps is =
+    let inside : All (λ c. c < length old) order = is.inside in
+    record {
+      once = λ c less. is.once c (omega (arith, less, keeps.count));
+      inside = λ k d less. omega (arith, inside k d less, keeps.count);
+      rises = λ i j d less within.
+          keeps.rises (get_or order i d) (get_or order j d) (inside i d (omega (arith, less, within))) (inside j d within)
+          (is.rises i j d less within);
+    }
+
+-- one chunk has a greater number than all now
+module _ (chunk number : ℕ) (old : List ℕ) (above : (c : ℕ) → c < length old → slice_index old c < number) (inside : chunk < length old) where
   abbrev new : List ℕ
-  new = set mid chunk number
+  new = set old chunk number
 
   same : length new ≡ length old
-  same = length-set mid chunk number ∙ keeps.count
+  same = length-set old chunk number
 
   here : slice_index new chunk ≡ number
-  here = get_or-set_same mid chunk number 0 (omega (arith, inside, keeps.count))
+  here = get_or-set_same old chunk number 0 inside
 
-  there : (c : ℕ) → c ≢ chunk → slice_index new c ≡ slice_index mid c
-  there c ne = get_or-set_other mid chunk c number 0 ne
+  there : (c : ℕ) → c ≢ chunk → slice_index new c ≡ slice_index old c
+  there c ne = get_or-set_other old chunk c number 0 ne
 
-  -- a chunk of the old order, other than the one that is touched
+  -- a chunk of the order, other than the one that is touched
   abbrev IsOther : ℕ → Type 0
   IsOther c = (c < length old) × (c ≢ chunk)
 
@@ -48,37 +60,41 @@ module _ (chunk number : ℕ) (old mid : List ℕ) (keeps : KeepsRising old mid)
   others order all k d less =
       (All-filter (is_other chunk) (λ (c : ℕ). c < length old) order all k d less, eqb-false _ chunk (not-true _ (filter_passes (is_other chunk) order k d less)))
 
-  pub is_in_order : (order : List ℕ) → IsInOrder order old → IsInOrder (without chunk order ++ chunk ∷ []) new
-  is_in_order order is =
+  once_last : (order : List ℕ) → IsInOrder order old → (c : ℕ) → c < length new → times c (without chunk order ++ chunk ∷ []) ≡ 1
+  once_last order is c less =
+      let rest = without chunk order in
+      let sum = times-append c rest (chunk ∷ []) in
+      elim (cases_eq c chunk) [
+        | inl e ↦
+            let out : times c rest ≡ 0 = subst (λ (d : ℕ). times d rest ≡ 0) (sym e) (times_out chunk order) in
+            omega (arith, sum, out, times_same c chunk [] (sym e))
+        | inr ne ↦
+            omega (arith, sum, times_left chunk c order ne, is.once c (omega (arith, less, same)), times_other c chunk [] (λ e. ne (sym e)))
+      ]
+
+  pub in_order_last : (order : List ℕ) → IsInOrder order old → IsInOrder (without chunk order ++ chunk ∷ []) new
+  in_order_last order is =
       let rest = without chunk order in
       let other = others order is.inside in
       record {
-        once = λ c less.
-            let sum = times-append c rest (chunk ∷ []) in
-            elim (cases_eq c chunk) [
-              | inl e ↦
-                  let out : times c rest ≡ 0 = subst (λ (d : ℕ). times d rest ≡ 0) (sym e) (times_out chunk order) in
-                  omega (arith, sum, out, times_same c chunk [] (sym e))
-              | inr ne ↦
-                  omega (arith, sum, times_left chunk c order ne, is.once c (omega (arith, less, same)), times_other c chunk [] (λ e. ne (sym e)))
-            ];
+        once = once_last order is;
         inside = All-push (λ (c : ℕ). c < length new) rest chunk (λ k d less. omega (arith, same, (other k d less).0)) (omega (arith, same, inside));
         rises = all_pairs_push (λ (a b : ℕ). slice_index new a < slice_index new b) rest chunk
         (λ i j d less within.
-          let x = get_or rest i d in
-          let y = get_or rest j d in
           let first = other i d (omega (arith, less, within)) in
           let second = other j d within in
           let rises = AllPairs-filter (λ (a b : ℕ). slice_index old a < slice_index old b) (is_other chunk) order is.rises i j d less within in
-          omega (arith, there x first.1, there y second.1, keeps.rises x y first.0 second.0 rises))
+          omega (arith, there (get_or rest i d) first.1, there (get_or rest j d) second.1, rises))
         (λ k d less.
-          let x = get_or rest k d in
           let at = other k d less in
-          omega (arith, here, there x at.1, above x (omega (arith, at.0, keeps.count))));
+          omega (arith, here, there (get_or rest k d) at.1, above (get_or rest k d) at.0));
       }
 
-  pub follows : Follows chunk old new
-  follows order next is puts = subst (λ (xs : List ℕ). IsInOrder xs new) (sym puts.others_first) (is_in_order order is)
+-- a touch, after which the numbers before it may be new
+pub follows : (chunk number : ℕ) (old mid : List ℕ) → KeepsRising old mid → ((c : ℕ) → c < length mid → slice_index mid c < number) → chunk < length mid → Follows chunk old (set mid chunk number)
+follows chunk number old mid keeps above inside order next is puts =
+    subst (λ (xs : List ℕ). IsInOrder xs (set mid chunk number)) (sym puts.others_first)
+    (in_order_last chunk number mid above inside order (still_in_order order old mid keeps is))
 
 -- at the start the numbers are those of the chunks
 number_at : (n i d : ℕ) → i < n → slice_index (range_with_len 0 n) (get_or (range_with_len 0 n) i d) ≡ i

@@ -12,4 +12,4 @@ returns-clause-order c =
     let is = c.self.invariant in
     rw (c.give_number.ensures, c.chunk.view_is)
     (follows c.args.chunk s.next old.numbers s.numbers.items keeps (λ k less. is.below k (omega (arith, less, is.same)))
-    (omega (arith, c.requires, keeps.count, is.same, ap length classes)))
+    (omega (arith, c.requires, is.same, ap length classes)))
