@@ -1,8 +1,11 @@
-//! A benchmark of zones and of the use order: `zalloc_bench CONV SEQ TAKES TOUCHES`.
+//! A benchmark of zones, of the use order and of candidates for jobs:
+//! `zalloc_bench CONV SEQ TAKES TOUCHES STORES WRITES CHANGES PICKS`.
 //!
 //! On a disk of so many conventional and sequential zones of 256 MiB it takes the last free
 //! conventional zone and gives it back so many times, and then touches so many chunks that stand
-//! far from each other.
+//! far from each other. In a plain array of a number for each chunk it stores so many numbers, as
+//! far from each other. Of candidates, of which each chunk is one, it touches and changes so many,
+//! and so often it looks for the oldest and touches that.
 #![tactic(auto)]
 
 ghost use Rattle.std.specs.Prelude.{◌≡◌, ◌<◌, ◌≤◌, length, IfOk, IfSome, vec_len};
@@ -11,7 +14,7 @@ ghost use Rattle.zd_base.specs.Geometry.{zone_count};
 use std::alloc::{AllocError, Global};
 use std::process::ExitCode;
 use std::{env, io};
-use zd_alloc::Alloc;
+use zd_alloc::{Alloc, Candidates, JobClass};
 use zd_base::{ChunkNo, Geometry, Kind, Layout};
 
 /// The blocks of a zone.
@@ -26,6 +29,10 @@ struct Task {
     geometry: Geometry,
     takes: u32,
     touches: u32,
+    stores: u32,
+    writes: u32,
+    changes: u32,
+    picks: u32,
 }
 
 /// The numbers behind the program's name.
@@ -39,14 +46,18 @@ fn numbers(rt: &HostRuntime) -> io::Result<Vec<u32>> {
     Ok(numbers)
 }
 
-/// The task of a command, where it has four numbers, and the first two are a disk's.
+/// The task of a command, where it has eight numbers, and the first two are a disk's.
 fn asked(rt: &HostRuntime) -> Option<Task> {
     let numbers = numbers(rt).ok()?;
     match numbers.as_slice() {
-        [conv, seq, takes, touches] => Some(Task {
+        [conv, seq, takes, touches, stores, writes, changes, picks] => Some(Task {
             geometry: Geometry::new(ZONE_BLOCKS, *conv, *seq).ok()?,
             takes: *takes,
             touches: *touches,
+            stores: *stores,
+            writes: *writes,
+            changes: *changes,
+            picks: *picks,
         }),
         _ => None,
     }
@@ -59,13 +70,24 @@ fn no_names(alloc: Global, g: &Geometry) -> Result<Vec<bool>, AllocError>
     vec![in alloc; false; g.zones() as usize]
 }
 
+/// A number for each chunk.
+fn plain_numbers(alloc: Global, chunks: u32) -> Result<Vec<u64>, AllocError>
+    ensures { IfOk result (λ plain. vec_len plain ≡ chunks) }
+{
+    vec![in alloc; 0u64; chunks as usize]
+}
+
 /// All zones of a disk and its chunks, of which there are so many.
 #[derive(Drop)]
 struct Volume {
     zones: Alloc,
+    candidates: Candidates,
+    plain: Vec<u64>,
     chunks: u32,
     ghost some: { 0 < chunks },
     ghost counted: { length zones.order ≡ chunks },
+    ghost classed: { length candidates.classes ≡ chunks },
+    ghost numbered: { vec_len plain ≡ chunks },
 }
 
 /// The disk with one reserved zone. None where it is too small, or where there is no memory.
@@ -77,8 +99,12 @@ fn begun(alloc: Global, g: &Geometry) -> Option<Volume> {
     let Ok(zones) = Alloc::new(alloc, g, &layout, named.as_slice()) else {
         return None;
     };
+    let candidates = Candidates::new(alloc, layout.chunks).ok()?;
+    let plain = plain_numbers(alloc, layout.chunks).ok()?;
     Some(Volume {
         zones,
+        candidates,
+        plain,
         chunks: layout.chunks,
     })
 }
@@ -107,15 +133,87 @@ fn take_and_release(zones: &mut Alloc, rounds: u32) -> u32
     last
 }
 
+/// The chunk far from this one.
+fn far_from(chunk: u32, chunks: u32) -> u32
+    requires { 0 < chunks }
+    ensures { result < chunks }
+{
+    ((u64::from(chunk) + STRIDE) % u64::from(chunks)) as u32
+}
+
 /// Touches so many chunks, each far from the one before. The answer is the oldest chunk then.
 fn touch(volume: &mut Volume, rounds: u32) -> u32 {
     let chunks = volume.chunks;
     let mut chunk = 0;
     for _ in 0..rounds {
         volume.zones.touch(ChunkNo(chunk));
-        chunk = ((u64::from(chunk) + STRIDE) % u64::from(chunks)) as u32;
+        chunk = far_from(chunk, chunks);
     }
     volume.zones.oldest().0
+}
+
+/// Stores so many numbers, each far from the one before.
+fn store(volume: &mut Volume, rounds: u32) {
+    let chunks = volume.chunks;
+    let mut chunk = 0;
+    for round in 0..rounds {
+        volume.plain[chunk as usize] = u64::from(round);
+        chunk = far_from(chunk, chunks);
+    }
+}
+
+/// Makes each chunk a candidate.
+fn enter_all(volume: &mut Volume) {
+    for chunk in 0..volume.chunks {
+        volume.candidates.set(ChunkNo(chunk), Some(JobClass::Merge));
+    }
+}
+
+/// Touches so many candidates, each far from the one before.
+fn write(volume: &mut Volume, rounds: u32) {
+    let chunks = volume.chunks;
+    let mut chunk = 0;
+    for _ in 0..rounds {
+        volume.candidates.touch(ChunkNo(chunk));
+        chunk = far_from(chunk, chunks);
+    }
+}
+
+/// Gives so many candidates another class, each far from the one before.
+fn change(volume: &mut Volume, rounds: u32) {
+    let chunks = volume.chunks;
+    let mut chunk = 0;
+    for round in 0..rounds {
+        let class = if round % 2 == 0 { JobClass::Move } else { JobClass::Append };
+        volume.candidates.set(ChunkNo(chunk), Some(class));
+        chunk = far_from(chunk, chunks);
+    }
+}
+
+/// Looks so often for the oldest candidate of two classes, and touches it.
+fn pick(volume: &mut Volume, rounds: u32) {
+    for _ in 0..rounds {
+        if let Some(chunk) = volume.candidates.oldest_of_either(JobClass::Move, JobClass::Merge) {
+            volume.candidates.touch(chunk);
+        }
+    }
+}
+
+/// Does all that is asked of candidates. The answer is the oldest of two classes then.
+fn try_candidates(volume: &mut Volume, task: &Task) -> u32 {
+    enter_all(volume);
+    write(volume, task.writes);
+    change(volume, task.changes);
+    pick(volume, task.picks);
+    match volume.candidates.oldest_of_either(JobClass::Move, JobClass::Merge) {
+        Some(chunk) => chunk.0,
+        None => 0,
+    }
+}
+
+/// The sum of the numbers in the plain array.
+fn sum_of(plain: &[u64]) -> u64 {
+    plain.iter().fold(0u64, |sum, number| sum.wrapping_add(*number))
 }
 
 fn main(rt: HostRuntime) -> ExitCode {
@@ -128,7 +226,11 @@ fn main(rt: HostRuntime) -> ExitCode {
     fill(&mut volume.zones);
     let zone = take_and_release(&mut volume.zones, task.takes);
     let oldest = touch(&mut volume, task.touches);
-    match println!(rt; "{} chunks, zone {zone}, chunk {oldest}", volume.chunks) {
+    store(&mut volume, task.stores);
+    let sum = sum_of(&volume.plain);
+    let picked = try_candidates(&mut volume, &task);
+    let chunks = volume.chunks;
+    match println!(rt; "{chunks} chunks, zone {zone}, chunk {oldest}, sum {sum}, pick {picked}") {
         Ok(()) => ExitCode::SUCCESS,
         Err(_) => ExitCode::FAILURE,
     }

@@ -4,3 +4,6 @@ pub mod DivisionLaws
 pub mod OrderLaws
 pub mod LinkLaws
 pub mod UseOrderLaws
+pub mod LeastTreeLaws
+pub mod OldestLaws
+pub mod FollowLaws

@@ -14,7 +14,11 @@
 #![tactic(auto)]
 
 mod alloc;
+mod candidates;
+mod class_trees;
 mod flags;
+mod job_class;
+mod least_tree;
 mod links;
 mod order;
 mod uses;
@@ -22,6 +26,8 @@ mod words;
 mod zones;
 
 pub use alloc::Alloc;
+pub use candidates::Candidates;
+pub use job_class::JobClass;
 pub use uses::ZoneUse;
 
 #[cfg(test)]

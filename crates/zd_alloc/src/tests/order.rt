@@ -1,6 +1,7 @@
 //! The use order, with the answers by hand, and beside a plain list.
 
 ghost use Rattle.std.specs.Prelude.{◌≡◌, ◌<◌, IfOk, length};
+ghost use Rattle.std.specs.List.{range_with_len};
 
 use super::small;
 use crate::Alloc;
@@ -48,8 +49,8 @@ const FOUR: Layout = Layout {
 };
 
 /// The small disk with four chunks.
-fn four(alloc: Global) -> Result<Alloc, Fail>
-    ensures { IfOk result (λ zones. length zones.order ≡ 4) }
+pub(super) fn four(alloc: Global) -> Result<Alloc, Fail>
+    ensures { IfOk result (λ zones. zones.order ≡ range_with_len 0 4) }
 {
     let zones = Alloc::new(alloc, &Geometry::new(16, 6, 6)?, &FOUR, &[false; 12])?;
     Ok(zones)
