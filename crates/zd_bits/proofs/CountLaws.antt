@@ -12,7 +12,7 @@ use Rattle.zd_model.specs.Tables.{is_set}
 use Rattle.zd_bits.specs.Bits.{weight_of}
 use Rattle.zd_bits.specs.Words.{IsWord}
 
-range_split : (a m n : ℕ) → range_with_len a (m + n) ≡ range_with_len a m ++ range_with_len (a + m) n
+pub range_split : (a m n : ℕ) → range_with_len a (m + n) ≡ range_with_len a m ++ range_with_len (a + m) n
 range_split a zero n =
     let none : zero + n ≡ n = omega arith in
     let start : a ≡ a + zero = omega arith in

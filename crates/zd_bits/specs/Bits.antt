@@ -1,5 +1,5 @@
 -- Questions about ranges of blocks in bitmap blocks, and what a change of a range leaves.
-use Rattle.std.specs.Prelude.{◌≡◌, ◌≢◌, ℕ, ◌+◌, ◌<◌, ◌≤◌, Bool, true, false, not, List, count_by}
+use Rattle.std.specs.Prelude.{◌≡◌, ◌≢◌, ℕ, ◌+◌, ◌-◌, ◌<◌, ◌≤◌, Bool, true, false, not, List, count_by}
 use Rattle.std.specs.List.{range_with_len}
 use Rattle.zd_model.specs.Tables.{is_set}
 
@@ -46,3 +46,7 @@ pub record IsBitRun (bits : List ℕ) (from end : ℕ) (bit : Bool) (count : ℕ
 -- how many blocks below `end` are valid
 unfoldable pub weight_of : List ℕ → ℕ → ℕ
 weight_of bits end = count_by (is_set bits) (range_with_len 0 end)
+
+-- how many blocks from `from` on, below `end`, are valid
+unfoldable pub weight_between : List ℕ → ℕ → ℕ → ℕ
+weight_between bits from end = count_by (is_set bits) (range_with_len from (end - from))

@@ -14,7 +14,7 @@ ghost use Rattle.std.specs.Prelude.{◌≡◌, ◌+◌, ◌*◌, ◌<◌, ◌≤
 ghost use Rattle.std.specs.Prelude.{IfNone, IfSome};
 ghost use Rattle.zd_model.specs.Tables.{is_set};
 ghost use Rattle.zd_bits.specs.Bits.{AllAre, SomeIs, GivesOnly, IsFirst, IsFirstValid, IsBitRun};
-ghost use Rattle.zd_bits.specs.Bits.{weight_of};
+ghost use Rattle.zd_bits.specs.Bits.{weight_of, weight_between};
 
 mod put;
 mod word;
@@ -85,6 +85,16 @@ pub fn weight(bits: &[u8], end: u32) -> u32
     }
     let last = word_at(bits, (end / WORD) as usize);
     weight + low_bits(last, end % WORD).count_ones()
+}
+
+/// How many blocks from block `from` on, below `end`, are valid.
+pub fn weight_in(bits: &[u8], from: u32, end: u32) -> u32
+    requires order { from ≤ end }
+    requires inside { end ≤ 8 * length bits.now }
+    ensures { result ≡ weight_between bits.now from end }
+{
+    let rest = &bits[from as usize / 8..];
+    weight(rest, end - from / 8 * 8) - weight(rest, from % 8)
 }
 
 /// The first block from `from` below `end` that has this bit, else `end`.

@@ -17,6 +17,8 @@ fn blocks_0_1_and_3(rt: HostRuntime) {
     assert!(rt; valid(&bits, 0) && valid(&bits, 1) && !valid(&bits, 2) && valid(&bits, 3));
     assert_eq!(rt; weight(&bits, 16), 3);
     assert_eq!(rt; weight(&bits, 3), 2);
+    assert_eq!(rt; weight_in(&bits, 1, 16), 2);
+    assert_eq!(rt; weight_in(&bits, 1, 3), 1);
     assert_eq!(rt; first_valid(&bits, 2, 16), Some(3));
     assert_eq!(rt; first_valid(&bits, 4, 16), None);
     assert_eq!(rt; run_at(&bits, 0, 16), (true, 2));
@@ -45,6 +47,8 @@ fn ranges_over_the_bounds_of_bytes(rt: HostRuntime) {
 fn bytes_that_fill_no_word(rt: HostRuntime) {
     let mut bits = [0xff, 0x01, 0x80];
     assert_eq!(rt; weight(&bits, 24), 10);
+    assert_eq!(rt; weight_in(&bits, 7, 24), 3);
+    assert_eq!(rt; weight_in(&bits, 24, 24), 0);
     assert_eq!(rt; run_at(&bits, 1, 24), (true, 8));
     assert_eq!(rt; first_valid(&bits, 9, 24), Some(23));
     assert!(rt; set_range(&mut bits, 0, 24));

@@ -1,1 +1,4 @@
 pub mod Tables
+pub mod Changes
+pub mod Held
+pub mod Counts
