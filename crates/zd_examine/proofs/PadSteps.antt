@@ -2,7 +2,7 @@
 use Rattle.std.proofs.Common.{◌≡◌, ◌≢◌, ℕ, zero, suc, ◌+◌, ◌-◌, ◌^◌, ◌<◌, ◌≤◌, Bool, true, false, cond, not, ◌&&◌, ◌*◌, ◌%◌, List, Some, get_or, length, ap₂, refl, sym, ap, ◌∙◌, subst, inl, inr, arith}
 use Rattle.std.proofs.lemmas.Bool.{cases_eq, cases_lt, false≢true, le-ltb}
 use borrow.Author.Tests.{eq-eqb, eqb-true, lt-ltb}
-use Rattle.std.proofs.Math.ListN.{set}
+use Rattle.std.proofs.Math.ListN.{get_or-eq_default, set}
 use Rattle.std.proofs.lemmas.List.{get_or-set_other, get_or-set_same, length-set}
 use Rattle.zd_disk.proofs.RunLaws.{count_none, count_then}
 use Rattle.std.specs.Prelude.{◌==◌, Result, Ok, Err, OnErr, count_by, slice_index, slice_index_or}
@@ -63,8 +63,16 @@ module _ (g : Shape) (named : List Bool) (z p q : ℕ) (seq : g.conv ≤ z) (sam
       and_no true = refl
       and_no false = refl
 
-conventional_none : (named : List Bool) (i : Image) (z : ℕ) → z < i.geometry.conv → needs_pad named i z ≡ false
+pub conventional_none : (named : List Bool) (i : Image) (z : ℕ) → z < i.geometry.conv → needs_pad named i z ≡ false
 conventional_none named i z low = conventional_uncut i.geometry named z (i.held z) low
+
+-- nor one behind all flags
+pub past_none : (named : List Bool) (i : Image) (z : ℕ) → length named ≤ z → needs_pad named i z ≡ false
+past_none named i z past = rw (get_or-eq_default named false past) (and_no (not (is_conventional i.geometry z)))
+  where
+    and_no : (b : Bool) → (b && false) ≡ false
+    and_no true = refl
+    and_no false = refl
 
 pub none_before : (named : List Bool) (i : Image) (n : ℕ) → ((z : ℕ) → z < n → needs_pad named i z ≡ false) → pads_before named i n ≡ 0
 none_before named i n none = count_none (needs_pad named i) 0 n (λ z above low. none z (omega arith))
