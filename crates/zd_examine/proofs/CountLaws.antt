@@ -1,4 +1,4 @@
--- How many writing calls an opening makes.
+-- How many writing calls an opening makes up to its pads.
 use Rattle.std.proofs.Common.{◌≡◌, Some, ◌<◌, ◌≤◌, sym, ◌∙◌, ap, arith}
 use Rattle.zd_base.specs.Geometry.{Shape}
 use Rattle.zd_base.specs.Layout.{used_blocks}
@@ -10,12 +10,12 @@ use Rattle.zd_sets.specs.Calls.{equal_calls}
 use Rattle.zd_sets.specs.Choice.{IsPlacedChoice}
 use Rattle.zd_sets.specs.declared.choice.Chosen.{Chosen}
 use Rattle.zd_sets.proofs.CallLaws.{equal_calls_same}
-use Rattle.zd_examine.specs.Opened.{open_calls}
+use Rattle.zd_examine.specs.Opened.{set_calls}
 
 -- a flush, and then the calls that make the other set equal
-pub counted_open : {c : Chosen} {u v w : View} (g : Shape) → IsPlacedChoice g c → 0 < g.zone_blocks → v.told ≡ Some g → v.calls ≡ next_count u.calls
-    → Reaches Same u v → (order : v.calls ≤ w.calls) → MadeOf (equal_calls c (used_blocks g c.head.layout)) v w → MadeOf (open_calls c) u w
-counted_open {c} {u} {v} {w} g placed some told one settled later made = record {
+pub counted_sets : {c : Chosen} {u v w : View} (g : Shape) → IsPlacedChoice g c → 0 < g.zone_blocks → v.told ≡ Some g → v.calls ≡ next_count u.calls
+    → Reaches Same u v → (order : v.calls ≤ w.calls) → MadeOf (equal_calls c (used_blocks g c.head.layout)) v w → MadeOf (set_calls c) u w
+counted_sets {c} {u} {v} {w} g placed some told one settled later made = record {
   number_is = λ low image e. (
       let there = turned settled.reads image e in
       let geometry : image.geometry ≡ g = sym there.2.geometry ∙ (read_as {v = v} told there.0 there.1).geometry in

@@ -7,7 +7,7 @@ use Rattle.zd_model.specs.Faults.{bad_bit, bad_chunk}
 use Rattle.zd_model.specs.Image.{Image, IsImage, Same, block_at}
 use Rattle.zd_model.specs.Tables.{Tables, served}
 use Rattle.zd_model.specs.Super.{decoded}
-use Rattle.zd_model.specs.Volume.{Chosen, IsWellFormed, chosen, good_super, has_magic, if_own, tables_of}
+use Rattle.zd_model.specs.Volume.{Chosen, IsWellFormed, chosen, content, good_super, has_magic, if_own, tables_of}
 use Rattle.zd_model.specs.declared.metadata.Super.{Super}
 use Rattle.zd_model.proofs.SameLaws.{chosen_first, chosen_of_same, image_at, same_block}
 use Rattle.zd_model.proofs.ContentLaws.{content_of_same, same_back, tables_of_same, well_formed_of_same}
@@ -122,28 +122,15 @@ module _ (g : Shape) (c : Choice) (bytes reported : List ℕ) (old middle new : 
       let middle_shape = subst IsShape (sym same.geometry) shape in
       well_formed_of_same middle old (chosen_of c) second middle_shape (same_back old middle same) e.well_formed
 
-  pub opened : IsPlacedChoice g c → IsMadeEqual g c (used_blocks g c.head.layout) middle new → IsOpened g c bytes reported old new
-  opened placed equal =
+  pub served_is : IsPlacedChoice g c → IsMadeEqual g c (used_blocks g c.head.layout) middle new
+      → served g.zone_blocks (tables_in g c.head.layout bytes) new.sector ≡ content old (chosen_of c)
+  served_is placed equal =
       let middle_shape = subst IsShape (sym same.geometry) shape in
       let here = subst (λ (h : Shape). IsPlacedChoice h c) e.geometry placed in
       let only = subst (λ (h : Shape). OnlyAt (InSet h c.other 0 (used_blocks h c.head.layout)) middle new) e.geometry equal.only in
-      let count = ap (λ (h : Shape). zone_count h) only.geometry in
-      let conv = ap (λ (h : Shape). h.conv) only.geometry in
-      record {
-        geometry = e.geometry ∙ sym only.geometry;
-        stays = only.geometry ∙ same.geometry;
-        well_formed = was_well_formed;
-        served =
-            ap₂ (λ (h : Shape) (t : Tables). served h.zone_blocks t new.sector) e.geometry (tables_of_set g c bytes reported middle e)
-            ∙ served_same middle new c second third middle_shape here e.well_formed only
-            ∙ content_of_same old middle (chosen_of c) first shape same was_well_formed;
-        pointers = record {
-          count = e.pointers.count ∙ sym count;
-          conventional = λ z low. e.pointers.conventional z (omega (arith, conv));
-          sequential = λ z above below. e.pointers.sequential z (omega (arith, conv)) (omega (arith, count))
-              ∙ sym (only.sequential z (omega (arith, conv))).held;
-        };
-      }
+      ap₂ (λ (h : Shape) (t : Tables). served h.zone_blocks t new.sector) e.geometry (tables_of_set g c bytes reported middle e)
+      ∙ served_same middle new c second third middle_shape here e.well_formed only
+      ∙ content_of_same old middle (chosen_of c) first shape same was_well_formed
 
   pub same_volume : KeepsVolume (chosen_of c) middle new → IsSameVolume old new
   same_volume keeps =

@@ -1,7 +1,8 @@
 -- The roles after one entry more.
 use Rattle.std.proofs.Common.{◌≡◌, ℕ, ◌+◌, ◌<◌, Bool, true, false, not, ◌&&◌, ◌||◌, List, [], ◌∷◌, ◌++◌, map, length, get_or, Option, Some, None, refl, sym, ap, ap₂, ◌∙◌, subst, inl, inr, arith, eqb, ltb, leb}
 use Rattle.std.proofs.Math.ListN.{set}
-use Rattle.std.proofs.lemmas.List.{get_or-set_same, get_or-set_other, length-set}
+use Rattle.std.proofs.lemmas.List.{ext_get_or, get_or-map, get_or-set_same, get_or-set_other, length-map, length-set}
+use Rattle.std.proofs.lemmas.List.FromFn.{get_or-map-range_with_len, length-map-range_with_len}
 use Rattle.std.proofs.lemmas.List.Folds.{list_any-append}
 use Rattle.std.proofs.lemmas.Bool.{false≢true}
 use borrow.Author.Tests.{eq-eqb, eqb-true, ltb-true}
@@ -185,3 +186,20 @@ module _ (g : Shape) (l : Layout) (entry : ℕ → MapEntry) (k : ℕ) (roles : 
       by_zone None buffer is beside = unmapped is
       by_zone (Some y) None is beside = mapped y is beside
       by_zone (Some y) (Some b) is beside = buffered y b is beside
+
+-- the flags of the zones that are no longer unnamed
+pub flags_are : (g : Shape) (entry : ℕ → MapEntry) (k : ℕ) (roles : List Role) → AreRoles g entry k roles
+    → map (λ (role : Role). not (is_unnamed role)) roles
+    ≡ map (has (flat_map zones_of (map entry (range_with_len 0 k)))) (range_with_len 0 (zone_count g))
+flags_are g entry k roles are =
+    let zones : List ℕ = flat_map zones_of (map entry (range_with_len 0 k)) in
+    let size : length (map (λ (role : Role). not (is_unnamed role)) roles) ≡ zone_count g = length-map roles (λ (role : Role). not (is_unnamed role)) ∙ are.named.count in
+    ext_get_or false _ _ (size ∙ sym (length-map-range_with_len (has zones) 0 (zone_count g))) (λ i low.
+    let under : i < zone_count g = omega (arith, low, size) in
+    get_or-map (λ (role : Role). not (is_unnamed role)) roles i Main false (omega (arith, under, are.named.count))
+    ∙ ap not (are.named.unnamed i under) ∙ twice (has zones i)
+    ∙ sym (get_or-map-range_with_len (has zones) 0 (zone_count g) i i false under (omega arith)))
+  where
+    twice : (b : Bool) → not (not b) ≡ b
+    twice true = refl
+    twice false = refl

@@ -1,7 +1,7 @@
 -- What an examined disk is found to be.
-use Rattle.std.specs.Prelude.{◌≡◌, ℕ, ◌*◌, ◌<◌, ◌≤◌, List, [], length, slice_index, Some, None, IsNone}
+use Rattle.std.specs.Prelude.{◌≡◌, ℕ, ◌*◌, ◌<◌, ◌≤◌, Bool, List, [], length, slice_index, Some, None, IsNone}
 use Rattle.std.specs.Option.{is_some}
-use Rattle.zd_base.specs.Geometry.{Shape, zone_count}
+use Rattle.zd_base.specs.Geometry.{Shape, zone_count, zone_sectors}
 use Rattle.zd_base.specs.Layout.{Fits, set_zones, used_blocks}
 use Rattle.zd_base.specs.declared.layout.Layout.{Layout as Sizes}
 use Rattle.zd_model.specs.Faults.{bad_bit, bad_chunk}
@@ -12,6 +12,7 @@ use Rattle.zd_sets.specs.Blocks.{AreBlocks}
 use Rattle.zd_sets.specs.Choice.{IsMisplaced, IsPlacedChoice, NoMagicAfter, chosen_of}
 use Rattle.zd_sets.specs.declared.choice.Chosen.{Chosen}
 use Rattle.zd_tables.specs.Tables.{entries_in, tables_in}
+use Rattle.zd_examine.specs.Padded.{named_flags}
 use Rattle.zd_examine.specs.declared.examining.OpenFault.{OpenFault}
 use Rattle.zd_examine.specs.declared.examining.OpenFault.TheVariants.{NoSuperBlock, Layout, BadMap, BadBits, Device, Memory}
 
@@ -55,14 +56,16 @@ pub record FollowsRules (g : Shape) (l : Sizes) (reported bytes : List ℕ) : Ty
   pub bits : bad_bit g (slice_index reported) (tables_in g l bytes) ≡ None
 
 -- What holds of an examined volume, whatever the disk tells: both sets stand where the layout puts
--- them, these are the used blocks of the chosen one, there is a pointer for each zone, and the tables
--- follow the rules.
-pub record IsUsable (g : Shape) (c : Chosen) (bytes reported : List ℕ) : Type 0 where
+-- them, these are the used blocks of the chosen one, there is a pointer and a flag for each zone, the tables
+-- follow the rules, and the flags say which zones they name.
+pub record IsUsable (g : Shape) (c : Chosen) (bytes reported : List ℕ) (named : List Bool) : Type 0 where
   pub placed : IsPlacedChoice g c
   pub size : length bytes ≡ 4096 * used_blocks g c.head.layout
   pub count : length reported ≡ zone_count g
   pub map : MapFollowsRules g c.head.layout (entries_in c.head.layout bytes)
   pub bits : BitsFollowRules g (slice_index reported) (tables_in g c.head.layout bytes)
+  pub within : (z : ℕ) → slice_index reported z ≤ zone_sectors g
+  pub flags : named ≡ named_flags g (tables_in g c.head.layout bytes)
 
 -- which rule they break first, where that is the fault
 abbrev pub BreaksTableRule : Shape → Sizes → List ℕ → List ℕ → OpenFault → Type 0

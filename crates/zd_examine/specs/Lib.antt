@@ -1,4 +1,5 @@
 pub mod Roles
 pub mod Bits
+pub mod Padded
 pub mod Examined
 pub mod Opened

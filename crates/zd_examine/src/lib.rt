@@ -6,6 +6,7 @@ mod bitmap;
 mod examining;
 mod map;
 mod opening;
+mod padding;
 mod pointers;
 mod roles;
 
@@ -13,4 +14,5 @@ pub use bitmap::first_bad_bit;
 pub use examining::{Image, OpenFault, examine};
 pub use map::first_bad_chunk;
 pub use opening::open;
+pub use padding::pad;
 pub use roles::Role;

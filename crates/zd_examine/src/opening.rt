@@ -3,11 +3,12 @@
 ghost use Rattle.std.specs.Prelude.{◌≡◌, ◌+◌, ◌≤◌, Some, Err, IfOk, IfErr, OnOk};
 ghost use Rattle.zd_base.specs.Geometry.{IsShape};
 ghost use Rattle.zd_disk.specs.Told.{WhereTold, next_count};
-ghost use Rattle.zd_disk.specs.View.{Fails, HasFailed, IsDurable, Keeps, MadeOf, Reaches, ReachesBy, Turns};
+ghost use Rattle.zd_disk.specs.View.{Fails, HasFailed, IsDurable, Keeps, Reaches, ReachesBy};
 ghost use Rattle.zd_model.specs.Image.{Same};
-ghost use Rattle.zd_examine.specs.Examined.{ExplainsRefusal, IsUsable};
-ghost use Rattle.zd_examine.specs.Opened.{IsFlushed, IsKept, IsLeftOrKept, IsOpened, IsRefusal, KeepsFrom, open_calls};
+ghost use Rattle.zd_examine.specs.Examined.{ExplainsRefusal};
+ghost use Rattle.zd_examine.specs.Opened.{IsFlushed, IsKept, IsLeftOrKept, IsOpening, IsRefusal, KeepsFrom};
 
+use crate::padding::pad;
 use crate::{Image, OpenFault, examine};
 use std::alloc::Global;
 use zd_base::{Failed, Geometry};
@@ -20,6 +21,7 @@ fn settle<D: ZonedDisk>(disk: &mut D) -> Result<Geometry, Failed>
     ensures shape { IfOk result IsShape }
     ensures way { Reaches Same (D.view disk.old) (D.view disk.new) }
     ensures counted { OnOk result ((D.view disk.new).calls ≡ next_count (D.view disk.old).calls) }
+    ensures few { (D.view disk.new).calls ≤ (D.view disk.old).calls + 1 }
     ensures durable { OnOk result (IsDurable (D.view disk.new)) }
     ensures cause { Fails result (D.view disk.old) (D.view disk.new) }
 {
@@ -44,33 +46,30 @@ fn settle<D: ZonedDisk>(disk: &mut D) -> Result<Geometry, Failed>
 /// `Device`; then, and before the end of the flush, a stop may also leave what it could have left before the
 /// call. After Ok it leaves what the disk reads as.
 pub fn open<D: ZonedDisk>(alloc: Global, disk: &mut D) -> Result<Image, OpenFault>
-    ensures ok { IfOk result (λ v. Turns (IsOpened v.geometry v.chosen v.blocks v.pointers.items)
-        (D.view disk.old) (D.view disk.new)) }
-    ensures usable { IfOk result (λ v. IsUsable v.geometry v.chosen v.blocks v.pointers.items) }
-    ensures told { IfOk result (λ v. (D.view disk.new).told ≡ Some v.geometry) }
+    ensures ok { IfOk result (λ v. IsOpening v (D.view disk.old) (D.view disk.new)) }
     ensures err { IfErr result (λ fault. WhereTold (D.view disk.old).zones (ExplainsRefusal fault)) }
-    ensures counted { IfOk result (λ v. MadeOf (open_calls v.chosen)
-        (D.view disk.old) (D.view disk.new)) }
     ensures refused { IfErr result (λ fault. IsRefusal fault → IsFlushed
         (D.view disk.old) (D.view disk.new)) }
 
     // What the disk reads as, and what a stop leaves, at each moment of the call.
     ensures way { ReachesBy IsLeftOrKept (D.view disk.old) (D.view disk.new) }
     ensures kept { Keeps IsKept (D.view disk.old) (D.view disk.new) }
-    ensures settled { (result ≡ Err OpenFault.Device → ⊥) →
+    ensures settled { (result ≡ Err OpenFault.Device → (D.view disk.old).calls + 2 ≤ (D.view disk.new).calls) →
         KeepsFrom ((D.view disk.old).calls + 1) (D.view disk.old) (D.view disk.new) }
-    ensures durable { OnOk result (IsDurable (D.view disk.new)) }
 
     ensures cause { result ≡ Err OpenFault.Device → HasFailed (D.view disk.old) (D.view disk.new) }
 {
     let Ok(_geometry) = settle(disk) else {
         return Err(OpenFault::Device);
     };
-    let image = match examine(alloc, disk) {
+    let mut image = match examine(alloc, disk) {
         Ok(image) => image,
         Err(fault) => return Err(fault),
     };
-    match make_equal(disk, &image.geometry, &image.chosen, &image.blocks) {
+    let Ok(()) = make_equal(disk, &image.geometry, &image.chosen, &image.blocks) else {
+        return Err(OpenFault::Device);
+    };
+    match pad(disk, &image.geometry, &image.named, &mut image.pointers) {
         Ok(()) => Ok(image),
         Err(Failed) => Err(OpenFault::Device),
     }

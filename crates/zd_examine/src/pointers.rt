@@ -1,7 +1,7 @@
 //! The pointers of a disk.
 
-ghost use Rattle.std.specs.Prelude.{◌≡◌, Some, Err, IfOk, length};
-ghost use Rattle.zd_base.specs.Geometry.{zone_count};
+ghost use Rattle.std.specs.Prelude.{◌≡◌, ◌≤◌, ℕ, Some, Err, IfOk, length, slice_index};
+ghost use Rattle.zd_base.specs.Geometry.{zone_count, zone_sectors};
 ghost use Rattle.zd_disk.specs.Told.{WhereTold};
 ghost use Rattle.zd_disk.specs.View.{HasFailed, OnlyReads};
 ghost use Rattle.zd_examine.specs.Examined.{ArePointers};
@@ -19,6 +19,8 @@ pub fn read_pointers<D: ZonedDisk>(
 ) -> Result<Vec<u32>, ReadFault>
     requires told { (D.view disk.old).told ≡ Some geometry.now }
     ensures count { IfOk result (λ pointers. length pointers.items ≡ zone_count geometry.now) }
+    ensures within { IfOk result (λ pointers. (z : ℕ) →
+        slice_index pointers.items z ≤ zone_sectors geometry.now) }
     ensures value { IfOk result (λ pointers. WhereTold (D.view disk.old).zones (λ image.
         ArePointers image pointers.items)) }
     ensures reads { OnlyReads (D.view disk.old) (D.view disk.new) }

@@ -40,4 +40,6 @@ returns-in-Ok-test_tables-clause-usable g c =
       count = c.in-Ok-read_pointers.ensures.count;
       map = map_rules;
       bits = bits_follow shape layout (slice_index reported) (tables_in shape layout bytes) map_rules follows.bits;
+      within = c.in-Ok-read_pointers.ensures.within;
+      flags = c.in-Ok-test_tables.ensures.named;
     }
