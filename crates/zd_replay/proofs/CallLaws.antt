@@ -1,11 +1,11 @@
 -- How many calls the runs of a read are.
-use Rattle.std.proofs.Common.{◌≡◌, ◌⊎◌, ℕ, zero, suc, ◌+◌, ◌-◌, ◌<◌, ◌≤◌, Bool, true, false, cond, not, ◌&&◌, ◌||◌, ◌==◌, is_some, List, count_by, Option, Some, None, inl, inr, refl, sym, ap, ap₂, ◌∙◌, subst, arith}
+use Rattle.std.proofs.Common.{◌≡◌, ◌⊎◌, ℕ, ◌+◌, ◌-◌, ◌<◌, ◌≤◌, Bool, true, false, cond, not, ◌&&◌, ◌||◌, ◌==◌, is_some, count_by, Option, Some, None, inl, inr, refl, sym, ap, ap₂, ◌∙◌, arith}
 use Rattle.std.specs.List.{range_with_len}
 use Rattle.std.proofs.lemmas.Bool.{eq-eqb, ne_eqb}
 use Rattle.zd_disk.proofs.RunLaws.{count_none, count_then}
 use Rattle.zd_disk.specs.View.{MadeReads, View}
 use Rattle.zd_model.specs.Places.{IsPlacedRun}
-use Rattle.zd_replay.specs.Run.{IsRunRead, ReadsAt, begins_call, calls_of_read, is_same_place}
+use Rattle.zd_replay.specs.Run.{ReadsAt, begins_call, calls_of_read, is_same_place}
 
 same_place : (o : Option ℕ) → is_same_place o o ≡ true
 same_place None = refl

@@ -1,12 +1,11 @@
 -- Runs of sectors of a chunk, joined.
-use Rattle.std.proofs.Common.{◌≡◌, ℕ, zero, suc, ◌+◌, ◌-◌, ◌*◌, ◌/◌, ◌<◌, ◌≤◌, min, Option, Some, None, List, ◌++◌, take, drop, replicate, refl, sym, ap, ap₂, ◌∙◌, arith}
+use Rattle.std.proofs.Common.{◌≡◌, ℕ, ◌+◌, ◌-◌, ◌*◌, ◌≤◌, List, ◌++◌, take, drop, replicate, sym, ap, ap₂, ◌∙◌, arith}
 use Rattle.std.proofs.Math.Seq.{take-add}
-use Rattle.std.proofs.lemmas.List.{drop-drop, drop-replicate, take-replicate, replicate-append-replicate}
-use Rattle.zd_model.specs.Bytes.{zero_sector}
-use Rattle.zd_model.specs.Image.{Image, run_of}
+use Rattle.std.proofs.lemmas.List.{drop-drop, drop-replicate, take-replicate}
+use Rattle.zd_model.specs.Image.{Image}
 use Rattle.zd_model.specs.Tables.{Tables}
 use Rattle.zd_model.specs.declared.metadata.MapEntry.{MapEntry}
-use Rattle.zd_model.specs.Places.{chunk_sector, chunk_sectors, place_in, sector_in}
+use Rattle.zd_model.specs.Places.{chunk_sector, chunk_sectors}
 use Rattle.zd_sets.proofs.BlockLaws.{run_then}
 
 -- n of the m sectors of zeros that stand from `start` on
