@@ -3,7 +3,6 @@
 
 mod laws;
 mod outcome;
-mod report;
 mod runs;
 mod words;
 
