@@ -1,13 +1,14 @@
 -- What a run is promised to do and to tell.
-use Rattle.std.specs.Prelude.{◌≡◌, ◌⊎◌, ℕ, ◌==◌, IsTrue, List, [], ◌∷◌, replicate, Option}
-use Rattle.std.specs.List.{list_any}
+use Rattle.std.specs.Prelude.{◌≡◌, ◌⊎◌, ℕ, List, replicate, Option}
 use Rattle.zd_base.specs.Geometry.{Shape}
 use Rattle.zd_base.specs.Layout.{formatted}
 use Rattle.zd_model.specs.Image.{Image}
 use Rattle.zd_format.specs.Fresh.{IsFormatted, IsFresh, IsUnfit}
-use Rattle.zd_ports.specs.Taking.{Takes}
+use Rattle.zd_tell.specs.Stages.{CausesExclude, Course, EndsIn, MayEnd, Stage}
+use Rattle.zd_tell.specs.Stages.Stage.{Words, Run}
+use Rattle.zd_tell.specs.Telling.{TellsMessage}
 use Rattle.zd_admin.specs.Words.{AsksFormat, IsAdminCommand}
-use Rattle.zd_admin.specs.Output.{HasAdminStatus, admin_output}
+use Rattle.zd_admin.specs.Output.{IsFixedOutput, admin_status, admin_telling}
 use Rattle.zd_admin.specs.declared.outcome.Outcome.{Outcome}
 use Rattle.zd_admin.specs.declared.outcome.Outcome.TheVariants.{Formatted, Usage, Device, Memory}
 use Rattle.zd_admin.specs.declared.outcome.Outcome.TheVariants.{Unfit}
@@ -22,12 +23,28 @@ FormatEnds reserved told Usage = ⊥
 FormatEnds reserved told Device = Unit {0}
 FormatEnds reserved told Memory = Unit {0}
 
--- when a run ends so: the words decide first
-abbrev pub AdminEnds : List (List ℕ) → Option Shape → Outcome → Type 0
-AdminEnds words told outcome =
-    ((IsAdminCommand words → ⊥) × (outcome ≡ Usage))
-    ⊎ ((reserved : ℕ) × (volume : List ℕ) × AsksFormat words reserved volume
-    × FormatEnds reserved told outcome)
+-- in which stages a run may end so: its words are no command, or the disk is formatted
+abbrev pub AdminComes : Stage → Outcome → Type 0
+AdminComes Words outcome = outcome ≡ Usage
+AdminComes Run outcome = outcome ≡ Usage → ⊥
+AdminComes stage outcome = ⊥
+
+-- what holds where a stage was passed: the words come first, and formatting is the last
+abbrev pub AdminPassed : List (List ℕ) → Stage → Type 0
+AdminPassed words Words = IsAdminCommand words
+AdminPassed words Run = ⊥
+AdminPassed words stage = Unit {0}
+
+-- what holds where a run ends so
+abbrev pub AdminCause : List (List ℕ) → Option Shape → Outcome → Type 0
+AdminCause words told Usage = IsAdminCommand words → ⊥
+AdminCause words told outcome = (reserved : ℕ) × (volume : List ℕ)
+    × AsksFormat words reserved volume × FormatEnds reserved told outcome
+
+-- the runs by these words over a disk that tells its geometry so
+abbrev pub admin_course : List (List ℕ) → Option Shape → Course Outcome
+admin_course words told =
+    record { Comes = AdminComes; Passed = AdminPassed words; Cause = AdminCause words told }
 
 -- the outcomes that words and geometry decide, and no count of faults and no memory
 abbrev pub IsAdminDecided : Outcome → Type 0
@@ -38,25 +55,22 @@ IsAdminDecided outcome = ⊥
 
 -- one of them comes at most: so each comes exactly where its cause holds, but for faults and memory
 abbrev pub OneAdminOutcome : Type 0
-OneAdminOutcome = (words : List (List ℕ)) (told : Option Shape) (o p : Outcome) →
-    IsAdminDecided o → IsAdminDecided p → AdminEnds words told o → AdminEnds words told p → o ≡ p
+OneAdminOutcome = (words : List (List ℕ)) (told : Option Shape) →
+    CausesExclude (admin_course words told) IsAdminDecided
 
--- the statuses that a run can end with
-abbrev pub IsAdminStatus : ℕ → Type 0
-IsAdminStatus status = IsTrue (list_any (λ s. s == status) (0 ∷ 1 ∷ 4 ∷ 6 ∷ 7 ∷ 10 ∷ []))
+-- the statuses that a run can have that ends in this stage
+abbrev pub AdminMayEnd : Stage → ℕ → Type 0
+AdminMayEnd stage status = MayEnd AdminComes admin_status stage status
 
--- all was done, whether the sink took the output or not
-abbrev pub IsDoneStatus : ℕ → Type 0
-IsDoneStatus status = (status ≡ 0) ⊎ (status ≡ 6)
-
--- there is an outcome with its cause, and what the sink took is its text
+-- a run ended in a stage with an outcome, whose cause holds, and told of it
 pub record AdminReports
     (words : List (List ℕ)) (told : Option Shape) (status : ℕ)
-    (before : List ℕ) (after : Option (List ℕ)) (whole : Type 0) : Type 0 where
+    (held after : Option (List ℕ)) (faults now : ℕ) : Type 0 where
+  pub stage : Stage
   pub outcome : Outcome
-  pub cause : AdminEnds words told outcome
-  pub answers : HasAdminStatus outcome status
-  pub taken : Takes before after (admin_output outcome) whole
+  pub ends : EndsIn (admin_course words told) stage outcome
+  pub statuses : AdminMayEnd stage status
+  pub tells : TellsMessage (admin_telling outcome) (IsFixedOutput outcome) status held after faults now
 
 -- a label of no letters
 unfoldable pub no_label : List ℕ

@@ -14,7 +14,6 @@
 
 mod laws;
 mod outcome;
-mod report;
 mod runs;
 mod words;
 

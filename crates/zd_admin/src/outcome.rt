@@ -1,11 +1,12 @@
 //! How a run ends, and its text.
 
-ghost use Rattle.std.specs.Prelude.{◌≡◌, ◌++◌, IfOk, OnOk, string_bytes};
+ghost use Rattle.std.specs.Prelude.{◌≡◌, ◌++◌, IfNone, IfOk, IfSome, OnOk, string_bytes};
 ghost use Rattle.zd_model.specs.Text.{numeral};
-ghost use Rattle.zd_admin.specs.Output.{IsFixedOutput, admin_output, admin_status};
+ghost use Rattle.zd_admin.specs.Output.{IsFixedOutput, admin_output, admin_status, admin_telling};
 
 use std::alloc::{AllocError, Global};
-use zd_base::Status;
+use zd_base::{Memory, Status};
+use zd_tell::Message;
 
 /// How a run ended, as its last line tells it.
 #[derive(Clone, Copy, Debug, PartialEq, Eq)]
@@ -22,33 +23,6 @@ pub enum Outcome {
     Unfit,
 }
 
-/// The exit status of an outcome.
-pub fn status_of(outcome: Outcome) -> Status
-    ensures { result.0 ≡ admin_status outcome }
-{
-    Status(match outcome {
-        Outcome::Formatted { .. } => 0,
-        Outcome::Usage => 1,
-        Outcome::Device => 4,
-        Outcome::Memory => 7,
-        Outcome::Unfit => 10,
-    })
-}
-
-/// The output of an outcome whose line tells no number. It takes no memory.
-pub fn fixed_line(outcome: Outcome) -> &'static str
-    requires { IsFixedOutput outcome }
-    ensures { result.now ≡ admin_output outcome }
-{
-    match outcome {
-        Outcome::Formatted { .. } => unreachable!(),
-        Outcome::Usage => "end 1 usage\n",
-        Outcome::Device => "end 4 device\n",
-        Outcome::Memory => "end 7 memory\n",
-        Outcome::Unfit => "end 10 unfit\n",
-    }
-}
-
 /// Appends a number, without leading zeros.
 fn add_number(text: &mut String, n: u32) -> Result<(), AllocError>
     ensures { OnOk result (string_bytes text.new ≡ string_bytes text.old ++ numeral n) }
@@ -57,7 +31,7 @@ fn add_number(text: &mut String, n: u32) -> Result<(), AllocError>
 }
 
 /// The output of a run that formatted a disk.
-pub fn formatted_text(alloc: Global, chunks: u32, zone_blocks: u32) -> Result<String, AllocError>
+fn formatted_text(alloc: Global, chunks: u32, zone_blocks: u32) -> Result<String, AllocError>
     ensures { IfOk result (λ text.
         string_bytes text ≡ admin_output (Outcome.Formatted chunks zone_blocks)) }
 {
@@ -67,4 +41,43 @@ pub fn formatted_text(alloc: Global, chunks: u32, zone_blocks: u32) -> Result<St
     add_number(&mut text, zone_blocks)?;
     text.push_str(" blocks\nend 0 ok\n")?;
     Ok(text)
+}
+
+impl Message for Outcome {
+    ghost telling = { admin_telling };
+
+    ghost fixed = { IsFixedOutput };
+
+    fn status(&self) -> Status {
+        Status(match self {
+            Outcome::Formatted { .. } => 0,
+            Outcome::Usage => 1,
+            Outcome::Device => 4,
+            Outcome::Memory => 7,
+            Outcome::Unfit => 10,
+        })
+    }
+
+    fn line(&self) -> Option<&'static str> {
+        match self {
+            Outcome::Formatted { .. } => None,
+            Outcome::Usage => Some("end 1 usage\n"),
+            Outcome::Device => Some("end 4 device\n"),
+            Outcome::Memory => Some("end 7 memory\n"),
+            Outcome::Unfit => Some("end 10 unfit\n"),
+        }
+    }
+
+    fn text(&self, alloc: Global) -> Result<Vec<u8>, Memory> {
+        match self {
+            Outcome::Formatted {
+                chunks,
+                zone_blocks,
+            } => match formatted_text(alloc, *chunks, *zone_blocks) {
+                Ok(text) => Ok(text.into_bytes()),
+                Err(_) => Err(Memory),
+            },
+            _ => unreachable!(),
+        }
+    }
 }

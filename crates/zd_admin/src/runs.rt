@@ -1,23 +1,21 @@
 //! A run, from words to the last line.
 
 ghost use Rattle.std.specs.Prelude.{◌≡◌, ◌↔◌, ◌≤◌, map, string_bytes};
-ghost use Rattle.zd_base.specs.Faults.{Rose};
-ghost use Rattle.zd_disk.specs.Told.{WhereTold};
 ghost use Rattle.zd_disk.specs.View.{HasFailed, Holds, OnlyReads, Stays};
-ghost use Rattle.zd_ports.specs.Taking.{IsFaultless, IsTaken};
+ghost use Rattle.zd_ports.specs.Taking.{IsFaultless};
+ghost use Rattle.zd_tell.specs.Telling.{IsDone};
 ghost use Rattle.zd_admin.specs.Words.{IsAdminCommand};
-ghost use Rattle.zd_admin.specs.Output.{IsDone};
-ghost use Rattle.zd_admin.specs.Admin.{FormatEnds, EndsWell, IsDoneStatus, IsFreshBy, IsAdminStatus, IsUnfitBy};
-ghost use Rattle.zd_admin.specs.Admin.{AdminReports, WasMade, no_label};
+ghost use Rattle.zd_admin.specs.Output.{admin_status};
+ghost use Rattle.zd_admin.specs.Admin.{AdminReports, EndsWell, FormatEnds, IsFreshBy, IsUnfitBy, WasMade, no_label};
 
 use crate::outcome::Outcome;
-use crate::report::{tell, tell_line};
 use crate::words::{Asked, command};
 use std::alloc::Global;
 use zd_base::Status;
 use zd_disk::ZonedDisk;
 use zd_format::{FormatFault, format_disk};
 use zd_ports::Sink;
+use zd_tell::tell;
 
 /// The label of a volume that gets none.
 const NO_LABEL: [u8; 32] = [0; 32];
@@ -25,7 +23,7 @@ const NO_LABEL: [u8; 32] = [0; 32];
 /// Formats a disk as it was asked.
 #[tactic(auto, unfolding(crate::specs::Admin::no_label))]
 fn run<D: ZonedDisk>(alloc: Global, disk: &mut D, asked: Asked) -> Outcome
-    ensures ok { IsDone result → Holds (WasMade asked.reserved asked.volume) (D.view disk.new) }
+    ensures ok { admin_status result ≡ 0 → Holds (WasMade asked.reserved asked.volume) (D.view disk.new) }
     ensures ended { FormatEnds asked.reserved (D.view disk.new).told result }
     ensures same { result ≡ Outcome.Unfit → OnlyReads (D.view disk.old) (D.view disk.new) }
     ensures stays { Stays (D.view disk.old) (D.view disk.new) }
@@ -55,19 +53,15 @@ pub fn admin<D: ZonedDisk, K: Sink>(
     out: &mut K,
 ) -> (Status, D)
     ensures usage { (result.0.0 ≡ 1) ↔ (IsAdminCommand (map string_bytes words.now) → ⊥) }
-    ensures statuses { IsAdminStatus result.0.0 }
 
-    // What is told of a run: its outcome with its cause, in the sink.
-    ensures report { WhereTold (K.held out.old) (λ before.
-        AdminReports (map string_bytes words.now) (D.view result.1).told result.0.0 before (K.held out.new)
-        (IsTaken result.0.0 (K.faults out.old) (K.faults out.new))) }
+    // How the run ended, with its cause, what the sink took of it, and that status 6 blames the sink.
+    ensures report { AdminReports (map string_bytes words.now) (D.view result.1).told result.0.0
+        (K.held out.old) (K.held out.new) (K.faults out.old) (K.faults out.new) }
 
     // Where all was done, the disk is the volume for which the words ask, also after a stop.
-    ensures ok { IsDoneStatus result.0.0 →
-        Holds (IsFreshBy (map string_bytes words.now)) (D.view result.1) }
+    ensures ok { IsDone result.0.0 → Holds (IsFreshBy (map string_bytes words.now)) (D.view result.1) }
 
     ensures device { result.0.0 ≡ 4 → HasFailed (D.view disk) (D.view result.1) }
-    ensures sink { result.0.0 ≡ 6 → Rose (K.faults out.old) (K.faults out.new) }
 
     // Where the disk has no room, nothing was written. Where the words are no command, it is the very
     // value.
@@ -82,9 +76,9 @@ pub fn admin<D: ZonedDisk, K: Sink>(
         EndsWell (map string_bytes words.now) (D.view result.1).told result.0.0 }
 {
     let Some(asked) = command(words) else {
-        return (tell_line(out, Outcome::Usage), disk);
+        return (tell(alloc, out, &Outcome::Usage), disk);
     };
     let outcome = run(alloc, &mut disk, asked);
-    let status = tell(alloc, out, outcome);
+    let status = tell(alloc, out, &outcome);
     (status, disk)
 }
