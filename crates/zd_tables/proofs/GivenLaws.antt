@@ -11,14 +11,9 @@ use Rattle.zd_model.specs.Tables.{is_set}
 use Rattle.zd_sets.specs.Blocks.{blocks_of}
 use Rattle.zd_sets.specs.Lending.{with_bytes_at}
 use Rattle.zd_tables.specs.Tables.{bits_in_blocks, tables_in}
-use Rattle.zd_tables.specs.Changes.{Differs, OnlyBlocks, SetsBits, SetsPart, TellsParts, bits_block}
-use Rattle.zd_tables.proofs.LentLaws.{lent_blocks, only_blocks}
+use Rattle.zd_tables.specs.Changes.{Differs, SetsBits, SetsPart, TellsParts, bits_block}
+use Rattle.zd_sets.proofs.LentLaws.{lent_blocks, only_blocks}
 use Rattle.zd_tables.proofs.TableLaws.{bit_by_block, no_bit, valid_is}
-
-pub length-whole : (bytes : List ℕ) (block : ℕ) → 4096 * (block + 1) ≤ length bytes → length (blocks_of bytes block 1) ≡ 4096
-length-whole bytes block fits =
-    ap (λ (n : ℕ). length (take n (drop (4096 * block) bytes))) (let e : 4096 * (block + 1) - 4096 * block ≡ 4096 = omega arith in e)
-    ∙ length-take-le 4096 (drop (4096 * block) bytes) (omega (arith, length-drop (4096 * block) bytes, fits))
 
 -- a block that was lent
 pub sets_lent : (bit : Bool) (block from end : ℕ) (old ws : List ℕ) (changed : Bool) → 4096 * (block + 1) ≤ length old → length ws ≡ 4096

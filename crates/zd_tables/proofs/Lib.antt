@@ -1,8 +1,8 @@
 pub mod TakenLaws
-pub mod LentLaws
 pub mod PartLaws
 pub mod TableLaws
 pub mod ZoneParts
 pub mod GivenLaws
 pub mod TableSteps
 pub mod ZoneCounts
+pub mod TableRules

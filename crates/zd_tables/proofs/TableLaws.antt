@@ -1,5 +1,5 @@
 -- What changed blocks of a set make of the tables in them, place by place.
-use Rattle.std.proofs.Common.{◌≡◌, ◌≢◌, ◌⊎◌, ℕ, ◌+◌, ◌*◌, ◌-◌, ◌/◌, ◌%◌, ◌<◌, ◌≤◌, Bool, List, [], map, length, get_or, take, drop, inl, inr, sym, ap, ap₂, ◌∙◌, arith}
+use Rattle.std.proofs.Common.{◌≡◌, ◌≢◌, ◌⊎◌, ℕ, ◌+◌, ◌*◌, ◌-◌, ◌/◌, ◌%◌, ◌<◌, ◌≤◌, Bool, List, [], map, length, get_or, take, drop, inl, inr, refl, sym, ap, ap₂, ◌∙◌, arith}
 use Rattle.std.proofs.Math.Nat.{mul-le-mul_right}
 use Rattle.std.proofs.lemmas.Bool.{cases_lt}
 use Rattle.std.proofs.lemmas.List.{ext_get_or, get_or-drop, get_or-take, get_or_past, length-drop, length-take}
@@ -13,8 +13,10 @@ use Rattle.zd_map.specs.Numbers.{unmapped}
 use Rattle.zd_model.specs.Tables.{Tables, entry_at, entry_of, is_set, is_valid}
 use Rattle.zd_model.specs.declared.metadata.MapEntry.{MapEntry}
 use Rattle.zd_sets.specs.Blocks.{blocks_of}
+use Rattle.zd_sets.specs.Lending.{OnlyBlocks}
 use Rattle.zd_tables.specs.Tables.{bits_in_blocks, entry_in_blocks, tables_in}
-use Rattle.zd_tables.specs.Changes.{ChangesBits, ChangesEntry, OnlyBlocks, SetsBits, SetsEntry, bits_block, entry_block}
+use Rattle.zd_tables.proofs.TakenLaws.{joined}
+use Rattle.zd_tables.specs.Changes.{ChangesBits, ChangesEntry, SetsBits, SetsEntry, bits_block, entry_block}
 
 byte_of : (bytes : List ℕ) (first count i : ℕ) → i < 4096 * count
     → get_or (blocks_of bytes first count) i 0 ≡ get_or bytes (4096 * first + i) 0
@@ -23,27 +25,14 @@ byte_of bytes first count i low =
     ∙ get_or-drop (4096 * first) bytes i 0
 
 -- many blocks are as they were where each is
-module _ (old new : List ℕ) (size : length new ≡ length old) (first count : ℕ)
-    (same : (k : ℕ) → first ≤ k → k < first + count → blocks_of new k 1 ≡ blocks_of old k 1) where
-  same_byte : (i : ℕ) → i < 4096 * count → get_or new (4096 * first + i) 0 ≡ get_or old (4096 * first + i) 0
-  same_byte i low =
-      let at : 4096 * first + i ≡ 4096 * (first + i / 4096) + i % 4096 = omega arith in
-      ap (λ (n : ℕ). get_or new n 0) at
-      ∙ sym (byte_of new (first + i / 4096) 1 (i % 4096) (omega arith))
-      ∙ ap (λ (bytes : List ℕ). get_or bytes (i % 4096) 0)
-      (same (first + i / 4096) (omega arith) (omega (arith, low)))
-      ∙ byte_of old (first + i / 4096) 1 (i % 4096) (omega arith)
-      ∙ ap (λ (n : ℕ). get_or old n 0) (sym at)
-
-  same_blocks : blocks_of new first count ≡ blocks_of old first count
-  same_blocks =
-      let a = length-take (4096 * (first + count) - 4096 * first) (drop (4096 * first) new) in
-      let b = length-take (4096 * (first + count) - 4096 * first) (drop (4096 * first) old) in
-      let c = length-drop (4096 * first) new in
-      let d = length-drop (4096 * first) old in
-      ext_get_or 0 (blocks_of new first count) (blocks_of old first count) (omega (arith, a, b, c, d, size)) (λ i low.
-      let few : i < 4096 * count = omega (arith, a, low) in
-      byte_of new first count i few ∙ same_byte i few ∙ sym (byte_of old first count i few))
+same_blocks : (old new : List ℕ) (first count : ℕ) → ((k : ℕ) → first ≤ k → k < first + count → blocks_of new k 1 ≡ blocks_of old k 1)
+    → blocks_of new first count ≡ blocks_of old first count
+same_blocks old new first count same =
+    let here : first ≡ first + 0 = omega arith in
+    ap (λ b. blocks_of new b count) here
+    ∙ joined new (λ i. blocks_of old (first + i) 1) first 0 count (λ i _ low. same (first + i) (omega arith) (omega arith))
+    ∙ sym (joined old (λ i. blocks_of old (first + i) 1) first 0 count (λ i _ _. refl))
+    ∙ ap (λ b. blocks_of old b count) (sym here)
 
 -- what tables have, by the blocks
 module _ (g : Shape) (l : Layout) (bytes : List ℕ) where
@@ -92,13 +81,13 @@ module _ (g : Shape) (l : Layout) (bytes : List ℕ) where
 
 module _ (g : Shape) (l : Layout) (old new : List ℕ) where
   -- the bits of a zone whose blocks are as they were
-  same_bits : length new ≡ length old → (z : ℕ)
+  same_bits : (z : ℕ)
       → ((k : ℕ) → bits_block g l z ≤ k → k < bits_block g l z + per g → blocks_of new k 1 ≡ blocks_of old k 1)
       → (x : ℕ) → is_valid (tables_in g l new) z x ≡ is_valid (tables_in g l old) z x
-  same_bits size z same x = elim (cases_lt z (zone_count g)) [
+  same_bits z same x = elim (cases_lt z (zone_count g)) [
     | inl low ↦
         valid_is g l new z x low
-        ∙ ap (λ (bits : List ℕ). is_set bits x) (same_blocks old new size (bits_block g l z) (per g) same)
+        ∙ ap (λ (bits : List ℕ). is_set bits x) (same_blocks old new (bits_block g l z) (per g) same)
         ∙ sym (valid_is g l old z x low)
     | inr high ↦ valid_past g l new z x high ∙ sym (valid_past g l old z x high)
   ]
@@ -112,14 +101,14 @@ module _ (g : Shape) (l : Layout) (old new : List ℕ) where
       | inl inside ↦ entry_is g l new c inside ∙ sets.others c off ∙ sym (entry_is g l old c inside)
       | inr past ↦ entry_past g l new c past ∙ sym (entry_past g l old c past)
     ];
-    bits = λ z. same_bits sets.only.size z (λ k from _. sets.only.others k (inr (
+    bits = λ z. same_bits z (λ k from _. sets.only.others k (inr (
     let map_block : entry_block chunk < bits_block g l z = omega (arith, room, low) in omega (arith, from, map_block))));
   }
 
   -- THE BITS OF ONE ZONE change
   module _ (zone : ℕ) (only : OnlyBlocks (bits_block g l zone) (bits_block g l zone + per g) old new) where
     zone_others : (y x : ℕ) → y ≢ zone → is_valid (tables_in g l new) y x ≡ is_valid (tables_in g l old) y x
-    zone_others y x off = same_bits only.size y (λ k low high. only.others k (elim (cases_lt y zone) [
+    zone_others y x off = same_bits y (λ k low high. only.others k (elim (cases_lt y zone) [
       | inl before ↦ (let m = mul-le-mul_right {m = y + 1} {n = zone} (per g) (omega (arith, before)) in inl (omega (arith, m, high)))
       | inr there ↦ (let m = mul-le-mul_right {m = zone + 1} {n = y} (per g) (omega (arith, there, off)) in inr (omega (arith, m, low)))
     ])) x

@@ -11,11 +11,11 @@ use Rattle.zd_model.specs.declared.metadata.MapEntry.{MapEntry}
 use Rattle.zd_sets.specs.Blocks.{blocks_of}
 use Rattle.zd_sets.specs.Lending.{with_bytes_at}
 use Rattle.zd_tables.specs.Tables.{entry_in_blocks, tables_in}
-use Rattle.zd_tables.specs.Changes.{ChangesBits, OnlyBlocks, SetsBits, SetsEntry, SetsPart, TellsParts, bits_block, entry_block}
+use Rattle.zd_tables.specs.Changes.{ChangesBits, SetsBits, SetsEntry, SetsPart, TellsParts, bits_block, entry_block}
 use Rattle.zd_tables.specs.Counts.{AreHeld, IsCounted, count_at, part_blocks}
 use Rattle.zd_tables.specs.Held.{HeldTables, SamePlace, tables_held}
 use Rattle.zd_tables.specs.declared.part.PartCount.{PartCount}
-use Rattle.zd_tables.proofs.LentLaws.{lent_blocks, only_blocks}
+use Rattle.zd_sets.proofs.LentLaws.{lent_blocks, only_blocks}
 use Rattle.zd_tables.proofs.TableLaws.{range_changed}
 use Rattle.zd_tables.proofs.ZoneParts.{bits_room, one_or_two}
 use Rattle.zd_tables.proofs.GivenLaws.{sets_range, tells_parts}

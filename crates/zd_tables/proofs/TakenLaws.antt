@@ -15,7 +15,7 @@ use Rattle.zd_sets.specs.Blocks.{blocks_of}
 use Rattle.zd_tables.specs.Tables.{bits_in_blocks, entries_in, entry_in_blocks, tables_in}
 
 -- neighbouring blocks, joined
-joined : (bytes : List ℕ) (block : ℕ → List ℕ) (b s k : ℕ)
+pub joined : (bytes : List ℕ) (block : ℕ → List ℕ) (b s k : ℕ)
     → ((i : ℕ) → s ≤ i → i < s + k → blocks_of bytes (b + i) 1 ≡ block i)
     → blocks_of bytes (b + s) k ≡ concat (map block (range_with_len s k))
 joined bytes block b s zero each =

@@ -8,13 +8,9 @@ use Rattle.zd_bits.specs.Bits.{GivesOnly, Tells}
 use Rattle.zd_model.specs.Tables.{Tables, entry_of, is_valid}
 use Rattle.zd_model.specs.declared.metadata.MapEntry.{MapEntry}
 use Rattle.zd_sets.specs.Blocks.{blocks_of}
+use Rattle.zd_sets.specs.Lending.{OnlyBlocks}
 use Rattle.zd_tables.specs.Tables.{bits_in_blocks, entry_in_blocks, tables_in}
 use Rattle.zd_tables.specs.declared.part.ChangedParts.{ChangedParts}
-
--- blocks from `first` on, below `end`, may have changed, and no others
-pub record OnlyBlocks (first end : ℕ) (old new : List ℕ) : Type 0 where
-  pub size : length new ≡ length old
-  pub others : (k : ℕ) → (k < first) ⊎ (end ≤ k) → blocks_of new k 1 ≡ blocks_of old k 1
 
 -- the block with the entry of a chunk
 abbrev pub entry_block : ℕ → ℕ

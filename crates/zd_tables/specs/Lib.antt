@@ -2,3 +2,4 @@ pub mod Tables
 pub mod Changes
 pub mod Held
 pub mod Counts
+pub mod Rules

@@ -5,7 +5,8 @@ use Rattle.zd_bits.specs.Bits.{GivesOnly, Tells}
 use Rattle.zd_sets.specs.Blocks.{blocks_of}
 use Rattle.zd_tables.specs.Counts.{IsCounted, part_blocks}
 use Rattle.zd_tables.specs.Held.{HeldTables}
-use Rattle.zd_tables.proofs.GivenLaws.{length-whole, sets_lent}
+use Rattle.zd_sets.proofs.BlockLaws.{block_size}
+use Rattle.zd_tables.proofs.GivenLaws.{sets_lent}
 use Rattle.zd_tables.proofs.TableSteps.{part_held}
 use Rattle.zd_tables.proofs.volume_tables.VolumeTables.give_part.Goals as goal
 
@@ -19,7 +20,7 @@ invariant_of-self c =
     let size : length c.give_bits-changed.new.bits ≡ 4096 =
     c.give_bits-changed.ensures.size
     ∙ ap (λ (bits : List ℕ). length bits) c.block_mut-bits.ensures.value
-    ∙ length-whole c.self.inside.blocks (1 + c.self.inside.layout.map_blocks + c.args.part) fits in
+    ∙ block_size c.self.inside.blocks (1 + c.self.inside.layout.map_blocks + c.args.part) fits in
     let end : c.min-end.result ≡ part_blocks c.self.inside.geometry =
     c.min-end.ensures ∙ ap (λ n. min n 32768) c.zone_blocks.ensures.value in
     part_held c.self.inside.geometry c.self.inside.layout c.self.inside.blocks c.give_bits-changed.new.bits
@@ -36,7 +37,7 @@ returns-clause-blocks c =
     let lent = c.block_mut-bits.ensures.value in
     let size : length c.give_bits-changed.new.bits ≡ 4096 =
     c.give_bits-changed.ensures.size ∙ ap (λ (bits : List ℕ). length bits) lent
-    ∙ length-whole c.self.inside.blocks (1 + c.self.inside.layout.map_blocks + c.args.part) fits in
+    ∙ block_size c.self.inside.blocks (1 + c.self.inside.layout.map_blocks + c.args.part) fits in
     rw (← c.self.view_is)
     (sets_lent c.args.bit (1 + c.self.inside.layout.map_blocks + c.args.part) c.args.from c.args.to
     c.self.inside.blocks c.give_bits-changed.new.bits c.give_bits-changed.result fits size
