@@ -99,8 +99,12 @@ fn begun(alloc: Global, g: &Geometry) -> Option<Volume> {
     let Ok(zones) = Alloc::new(alloc, g, &layout, named.as_slice()) else {
         return None;
     };
-    let candidates = Candidates::new(alloc, layout.chunks).ok()?;
-    let plain = plain_numbers(alloc, layout.chunks).ok()?;
+    let Ok(candidates) = Candidates::new(alloc, layout.chunks) else {
+        return None;
+    };
+    let Ok(plain) = plain_numbers(alloc, layout.chunks) else {
+        return None;
+    };
     Some(Volume {
         zones,
         candidates,
@@ -184,7 +188,11 @@ fn change(volume: &mut Volume, rounds: u32) {
     let chunks = volume.chunks;
     let mut chunk = 0;
     for round in 0..rounds {
-        let class = if round % 2 == 0 { JobClass::Move } else { JobClass::Append };
+        let class = if round % 2 == 0 {
+            JobClass::Move
+        } else {
+            JobClass::Append
+        };
         volume.candidates.set(ChunkNo(chunk), Some(class));
         chunk = far_from(chunk, chunks);
     }
@@ -193,7 +201,10 @@ fn change(volume: &mut Volume, rounds: u32) {
 /// Looks so often for the oldest candidate of two classes, and touches it.
 fn pick(volume: &mut Volume, rounds: u32) {
     for _ in 0..rounds {
-        if let Some(chunk) = volume.candidates.oldest_of_either(JobClass::Move, JobClass::Merge) {
+        if let Some(chunk) = volume
+            .candidates
+            .oldest_of_either(JobClass::Move, JobClass::Merge)
+        {
             volume.candidates.touch(chunk);
         }
     }
@@ -205,7 +216,10 @@ fn try_candidates(volume: &mut Volume, task: &Task) -> u32 {
     write(volume, task.writes);
     change(volume, task.changes);
     pick(volume, task.picks);
-    match volume.candidates.oldest_of_either(JobClass::Move, JobClass::Merge) {
+    match volume
+        .candidates
+        .oldest_of_either(JobClass::Move, JobClass::Merge)
+    {
         Some(chunk) => chunk.0,
         None => 0,
     }
@@ -213,7 +227,9 @@ fn try_candidates(volume: &mut Volume, task: &Task) -> u32 {
 
 /// The sum of the numbers in the plain array.
 fn sum_of(plain: &[u64]) -> u64 {
-    plain.iter().fold(0u64, |sum, number| sum.wrapping_add(*number))
+    plain
+        .iter()
+        .fold(0u64, |sum, number| sum.wrapping_add(*number))
 }
 
 fn main(rt: HostRuntime) -> ExitCode {

@@ -80,14 +80,14 @@ module _ (chunk number : ℕ) (old : List ℕ) (above : (c : ℕ) → c < length
         once = once_last order is;
         inside = All-push (λ (c : ℕ). c < length new) rest chunk (λ k d less. omega (arith, same, (other k d less).0)) (omega (arith, same, inside));
         rises = all_pairs_push (λ (a b : ℕ). slice_index new a < slice_index new b) rest chunk
-        (λ i j d less within.
-          let first = other i d (omega (arith, less, within)) in
-          let second = other j d within in
-          let rises = AllPairs-filter (λ (a b : ℕ). slice_index old a < slice_index old b) (is_other chunk) order is.rises i j d less within in
-          omega (arith, there (get_or rest i d) first.1, there (get_or rest j d) second.1, rises))
-        (λ k d less.
-          let at = other k d less in
-          omega (arith, here, there (get_or rest k d) at.1, above (get_or rest k d) at.0));
+            (λ i j d less within.
+            let first = other i d (omega (arith, less, within)) in
+            let second = other j d within in
+            let rises = AllPairs-filter (λ (a b : ℕ). slice_index old a < slice_index old b) (is_other chunk) order is.rises i j d less within in
+            omega (arith, there (get_or rest i d) first.1, there (get_or rest j d) second.1, rises))
+            (λ k d less.
+            let at = other k d less in
+            omega (arith, here, there (get_or rest k d) at.1, above (get_or rest k d) at.0));
       }
 
 -- a touch, after which the numbers before it may be new

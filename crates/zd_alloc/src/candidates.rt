@@ -15,9 +15,9 @@ use zd_base::{ChunkNo, Memory};
 
 /// What each chunk can be picked for, and which chunk of a class was written least recently.
 ///
-/// Contracts see for each chunk its class and the number of its last write: in the use order of
-/// `Alloc` the numbers rise (`IsInOrder`). Each call costs the same on every disk, but for one
-/// `touch` in 2^64, which gives all chunks new numbers. No call but `new` takes memory.
+/// Contracts see for each chunk its class and the number of its last write: along the use order of
+/// `Alloc` the numbers rise (`IsInOrder`). A call goes up or down a tree, once or twice; but one
+/// `touch` in 2^64 gives all chunks new numbers first. No call but `new` takes memory.
 #[derive(Drop)]
 pub struct Candidates {
     classes: Vec<Option<JobClass>>,

@@ -25,10 +25,10 @@ impl Model for ClassTrees {
     ghost Value = { ClassLists };
 
     ghost view = { λ t. record {
-        appends = t.appends;
-        moves = t.moves;
-        merges = t.merges;
-        empties = t.empties;
+      appends = t.appends;
+      moves = t.moves;
+      merges = t.merges;
+      empties = t.empties;
     } };
 }
 
