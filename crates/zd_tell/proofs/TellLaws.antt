@@ -75,3 +75,9 @@ module _ {message : Telling} {fixed : Type 0} {status : ℕ} {held after : Optio
       by (inr none) (inl zero_is) (inl is) = (let s = ap (λ (m : Telling). m.status) none.0 in absurd (omega (arith, zero_is, is, s)))
       by (inr none) (inr six) (inl is) = (let s = ap (λ (m : Telling). m.status) none.0 in let e = six.0 in absurd (omega (arith, e, is, s)))
       by (inr none) done (inr six) = (let s = ap (λ (m : Telling). m.status) none.0 in let e = six.1 in absurd (omega (arith, e, s)))
+
+-- a status that is neither 6 nor 7 is the message's own
+pub own_status : {own status : ℕ} → HasStatus own status ⊎ (status ≡ 7) → (status ≡ 6 → ⊥) → (status ≡ 7 → ⊥) → own ≡ status
+own_status (inl (inl is)) not_six not_seven = sym is
+own_status (inl (inr six)) not_six not_seven = absurd (not_six six.0)
+own_status (inr seven) not_six not_seven = absurd (not_seven seven)

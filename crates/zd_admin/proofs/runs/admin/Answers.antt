@@ -1,4 +1,4 @@
-use Rattle.std.proofs.Common.{map, sym, subst}
+use Rattle.std.proofs.Common.{map, subst}
 use Rattle.std.specs.Prelude.{string_bytes}
 use Rattle.zd_disk.proofs.ViewLaws.{holds_as}
 use Rattle.zd_tell.proofs.TellLaws.{done_told, fixed_told, status_told}
@@ -33,9 +33,10 @@ returns-clause-device g c four = c.run-outcome.ensures.cause (device_of c.run-ou
 
 pub returns-clause-unfit : goal.returns-clause-unfit
 returns-clause-unfit g c ten =
-    let is = unfit_of c.run-outcome.result (status_told c.tell-status.ensures) ten in
-    ((c.in-Some.asked.reserved, c.in-Some.asked.volume, c.in-Some.ensures.some, subst (FormatEnds c.in-Some.asked.reserved _) is c.run-outcome.ensures.ended),
-    c.run-outcome.ensures.same is)
+    let is = unfit_of c.run-outcome.result (status_told c.tell-status.ensures) ten in (
+      (c.in-Some.asked.reserved, c.in-Some.asked.volume, c.in-Some.ensures.some, subst (FormatEnds c.in-Some.asked.reserved _) is c.run-outcome.ensures.ended),
+      c.run-outcome.ensures.same is,
+    )
 
 pub returns-clause-same : goal.returns-clause-same
 returns-clause-same g c one = absurd (no_usage_status c.in-Some.asked.reserved _ c.run-outcome.result c.run-outcome.ensures.ended (status_told c.tell-status.ensures) one)
