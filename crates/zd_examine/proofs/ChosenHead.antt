@@ -16,14 +16,17 @@ use Rattle.zd_sets.proofs.ChosenLaws.{either_set, good_second}
 own_is : (number : ℕ) (r : Result Super NotSuper) (s : Super) → if_own number r ≡ Some s → s.own ≡ number
 own_is number (Ok t) s is = by_test (t.own == number) refl is
   where
-    by_test : (b : Bool) → (t.own == number) ≡ b → ◌≡◌ {A = Option Super} (cond b (Some t) None) (Some s) → s.own ≡ number
+    by_test : (b : Bool) → (t.own == number) ≡ b → ◌≡◌ {A = Option Super} (cond b (Some t) None) (Some s)
+        → s.own ≡ number
     by_test true same e = (let f : t ≡ s = cc in ap (λ (u : Super). u.own) (sym f) ∙ eqb-true t.own number same)
     by_test false other e = cc
 own_is number (Err e) s is = cc
 
 pub chosen_head : (image : Image) (c : Choice) → IsPlacedChoice image.geometry c → chosen image ≡ Some (chosen_of c)
     → good_super image c.zone ≡ Some (head_at image.geometry c.zone c.head)
-chosen_head image c placed is = good ∙ ap Some (sym (own (own_is (c.zone * image.geometry.zone_blocks) (decoded (block_at image c.zone 0)) c.head good)))
+chosen_head image c placed is = good
+    ∙ ap Some (sym (own (own_is (c.zone * image.geometry.zone_blocks)
+    (decoded (block_at image c.zone 0)) c.head good)))
   where
     good : good_super image c.zone ≡ Some c.head
     good = elim (either_set image (chosen_of c) is) [

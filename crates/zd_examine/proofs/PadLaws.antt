@@ -64,9 +64,11 @@ part_same {y} {a} {b} same = record {
 }
 
 -- zeros written at the pointer of a zone, up to the block's end
-module _ (g : Shape) (z p n : ℕ) (bytes : List ℕ) (zeros : bytes ≡ replicate (512 * n) 0) (seq : g.conv ≤ z) (cut : p % 8 ≢ 0) (all : n ≡ 8 - p % 8) where
+module _ (g : Shape) (z p n : ℕ) (bytes : List ℕ) (zeros : bytes ≡ replicate (512 * n) 0) (seq : g.conv ≤ z)
+    (cut : p % 8 ≢ 0) (all : n ≡ 8 - p % 8) where
   count : count_of bytes ≡ n
-  count = ap count_of zeros ∙ (let e : count_of (replicate (512 * n) 0) ≡ n = omega (arith, length-replicate {A = ℕ} (512 * n) 0) in e)
+  count = ap count_of zeros
+      ∙ (let e : count_of (replicate (512 * n) 0) ≡ n = omega (arith, length-replicate {A = ℕ} (512 * n) 0) in e)
 
   -- some of them
   short : (reads new : Image) → reads.held z ≡ p → (m : ℕ) → m ≤ count_of bytes
@@ -77,7 +79,8 @@ module _ (g : Shape) (z p n : ℕ) (bytes : List ℕ) (zeros : bytes ≡ replica
       (subst (λ (bs : List ℕ). ZoneWrote z p bs reads new)
       (ap (take (512 * m)) zeros ∙ take-replicate (512 * m) (512 * n) 0 (omega (arith, under))) w)
 
-  pub step_is : (reads a b : Image) → reads.held z ≡ p → a.geometry ≡ g → WriteStep reads z p bytes a b → IsPadStep reads z a b
+  pub step_is : (reads a b : Image) → reads.held z ≡ p → a.geometry ≡ g → WriteStep reads z p bytes a b
+      → IsPadStep reads z a b
   step_is reads a b at shape w = record {
     geometry = w.geometry;
     others = w.others;
@@ -87,7 +90,8 @@ module _ (g : Shape) (z p n : ℕ) (bytes : List ℕ) (zeros : bytes ≡ replica
     ];
   }
 
-  pub leaves_is : (reads now a b : Image) → reads.held z ≡ p → a.geometry ≡ g → WriteLeaves reads now z p bytes a b → IsPadStep reads z a b
+  pub leaves_is : (reads now a b : Image) → reads.held z ≡ p → a.geometry ≡ g
+      → WriteLeaves reads now z p bytes a b → IsPadStep reads z a b
   leaves_is reads now a b at shape w = record {
     geometry = w.geometry;
     others = w.others;
@@ -106,7 +110,8 @@ module _ (g : Shape) (z p n : ℕ) (bytes : List ℕ) (zeros : bytes ≡ replica
         others = w.others;
         zone = record {
           held = omega (arith, held, at, count, all, cut);
-          part = zone_part z p n a b at cut (omega (arith, all)) (subst (λ (bs : List ℕ). ZoneWrote z p bs a b) zeros w.zone);
+          part = zone_part z p n a b at cut (omega (arith, all))
+              (subst (λ (bs : List ℕ). ZoneWrote z p bs a b) zeros w.zone);
         };
       }
 
@@ -132,7 +137,8 @@ module _ {named : List Bool} {z : ℕ} {a b : Image} (h : IsPadded named z a b) 
     geometry = h.geometry;
     pads = λ y low need. elim (cases_lt y z) [
       | inl under ↦ h.pads y under need
-      | inr at ↦ (let here : y ≡ z = omega arith in absurd (false≢true (sym none ∙ ap (needs_pad named a) (sym here) ∙ need)))
+      | inr at ↦ (let here : y ≡ z = omega arith in
+          absurd (false≢true (sym none ∙ ap (needs_pad named a) (sym here) ∙ need)))
     ];
     later = λ y high. h.later y (omega arith);
     others = h.others;

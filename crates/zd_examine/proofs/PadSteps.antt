@@ -22,16 +22,20 @@ use Rattle.zd_examine.proofs.PadLaws.{padded_more, padded_skip, padded_step, par
 
 -- counts
 
-before_more : (named : List Bool) (i : Image) (z n : ℕ) → cond (needs_pad named i z) 1 0 ≡ n → pads_before named i (z + 1) ≡ pads_before named i z + n
+before_more : (named : List Bool) (i : Image) (z n : ℕ) → cond (needs_pad named i z) 1 0 ≡ n
+    → pads_before named i (z + 1) ≡ pads_before named i z + n
 before_more named i z n is =
     ap (λ (k : ℕ). count_by (needs_pad named i) (range_with_len 0 k)) (let e : z + 1 ≡ z + 1 - 0 = omega arith in e)
     ∙ count_then (needs_pad named i) 0 z (z + 1) (omega arith) (omega arith)
-    ∙ ap₂ (λ (x y : ℕ). count_by (needs_pad named i) (range_with_len 0 x) + count_by (needs_pad named i) (range_with_len z y))
+    ∙ ap₂ (λ (x y : ℕ). count_by (needs_pad named i) (range_with_len 0 x) + count_by (needs_pad named i)
+        (range_with_len z y))
     (let e : z - 0 ≡ z = omega arith in e) (let e : z + 1 - z ≡ 1 = omega arith in e)
-    ∙ (let e : 0 + cond (needs_pad named i z) 1 0 ≡ n = omega (arith, is) in ap (λ (m : ℕ). pads_before named i z + m) e)
+    ∙ (let e : 0 + cond (needs_pad named i z) 1 0 ≡ n = omega (arith, is) in
+        ap (λ (m : ℕ). pads_before named i z + m) e)
 
 -- no conventional zone needs a pad
-pub conventional_uncut : (g : Shape) (named : List Bool) (z pointer : ℕ) → z < g.conv → is_cut g named z pointer ≡ false
+pub conventional_uncut : (g : Shape) (named : List Bool) (z pointer : ℕ) → z < g.conv
+    → is_cut g named z pointer ≡ false
 conventional_uncut g named z pointer low = let here : is_conventional g z ≡ true = lt-ltb z g.conv low in rw here refl
 
 -- a sequential zone does where the map names it and its pointer stands inside a block
@@ -74,12 +78,14 @@ past_none named i z past = rw (get_or-eq_default named false past) (and_no (not 
     and_no true = refl
     and_no false = refl
 
-pub none_before : (named : List Bool) (i : Image) (n : ℕ) → ((z : ℕ) → z < n → needs_pad named i z ≡ false) → pads_before named i n ≡ 0
+pub none_before : (named : List Bool) (i : Image) (n : ℕ) → ((z : ℕ) → z < n → needs_pad named i z ≡ false)
+    → pads_before named i n ≡ 0
 none_before named i n none = count_none (needs_pad named i) 0 n (λ z above low. none z (omega arith))
 
 -- Calls in other words
 
-pub calls_as : {b e : Image → Image → Image → Type 0} {begun : Image → Image → Image → Type 0} {ended : Image → Image → Image → Image → Type 0} {u v : View} {g : Shape}
+pub calls_as : {b e : Image → Image → Image → Type 0} {begun : Image → Image → Image → Type 0}
+    {ended : Image → Image → Image → Image → Type 0} {u v : View} {g : Shape}
     → u.told ≡ Some g → ((r a c : Image) → IsReadAs g u r → a.geometry ≡ g → begun r a c → b r a c)
     → ((r n a c : Image) → IsReadAs g u r → a.geometry ≡ g → ended r n a c → e r a c)
     → Calls begun ended u v → Calls b (λ r _. e r) u v
@@ -87,7 +93,8 @@ calls_as {b} {e} {begun} {ended} {u} {v} {g} told first second call = record {
   stays = call.stays;
   calls = call.calls;
   read_calls = call.read_calls;
-  left = λ low. (turns_as {R = λ r n. Grows u.calls u.left v.left (b r) (e r)} {u = u} {v = v} told (λ r n is after grows. record {
+  left = λ low. (turns_as {R = λ r n. Grows u.calls u.left v.left (b r) (e r)} {u = u} {v = v} told
+      (λ r n is after grows. record {
     only = grows.only;
     kept = grows.kept;
     under_way = λ c can. (
@@ -100,18 +107,21 @@ calls_as {b} {e} {begun} {ended} {u} {v} {g} told first second call = record {
 }
 
 -- one call that makes of an image the same, under way and returned, is one step of that way
-by_call : {R : Image → Image → Image → Type 0} {u v : View} → Turns (λ i. R i i) u v → Calls R (λ i _. R i) u v → ReachesBy R u v
+by_call : {R : Image → Image → Image → Type 0} {u v : View} → Turns (λ i. R i i) u v → Calls R (λ i _. R i) u v
+    → ReachesBy R u v
 by_call {R} {u} {v} turns call = record {
   stays = call.stays;
   order = omega (arith, call.calls);
   reads = turns;
   left = λ low i e. (
-      let grows = (turned {P = λ r n. Grows u.calls u.left v.left (R r) (R r)} {u = u} {v = v} (record { reads = call.left low }) i e).2 in
+      let grows = (turned {P = λ r n. Grows u.calls u.left v.left (R r) (R r)} {u = u} {v = v}
+          (record { reads = call.left low }) i e).2 in
       let one : v.calls ≡ u.calls + 1 = omega (arith, call.calls, low) in
       record {
         earlier = λ k c under can. grows.only k c under can;
         each = λ k c above below can. elim (cases_lt u.calls k) [
-          | inl over ↦ grows.returned c (subst (λ (n : ℕ). v.left n c) (let f : k ≡ u.calls + 1 = omega (arith, one) in f) can)
+          | inl over ↦ grows.returned c
+              (subst (λ (n : ℕ). v.left n c) (let f : k ≡ u.calls + 1 = omega (arith, one) in f) can)
           | inr under ↦ grows.under_way c (subst (λ (n : ℕ). v.left n c) (let f : k ≡ u.calls = omega arith in f) can)
         ];
       });
@@ -134,13 +144,15 @@ same_parts i a same = record {
 
 -- whether a zone needs a pad is told by the pointers
 pub need_is : (named : List Bool) {g : Shape} (u : View) (pointers : List ℕ) (z : ℕ) (b : Bool) → u.told ≡ Some g
-    → WhereTold u.zones (λ i. ArePointers i pointers) → g.conv ≤ z → z < zone_count g → is_cut g named z (slice_index pointers z) ≡ b
+    → WhereTold u.zones (λ i. ArePointers i pointers) → g.conv ≤ z → z < zone_count g
+        → is_cut g named z (slice_index pointers z) ≡ b
     → WhereTold u.zones (λ i. needs_pad named i z ≡ b)
 need_is named {g} u pointers z b told are seq low is i e =
     let same = (read_as {v = u} told i e).geometry in
     let conv = ap (λ (h : Shape). h.conv) same in
     let count = ap (λ (h : Shape). zone_count h) same in
-    ap₂ (λ (h : Shape) (p : ℕ). is_cut h named z p) same (sym ((are i e).sequential z (omega (arith, seq, conv)) (omega (arith, low, count)))) ∙ is
+    ap₂ (λ (h : Shape) (p : ℕ). is_cut h named z p) same
+        (sym ((are i e).sequential z (omega (arith, seq, conv)) (omega (arith, low, count)))) ∙ is
 
 -- the pointer of a zone that isn't padded yet
 pub pointer_is : {named : List Bool} {g : Shape} {u v : View} (pointers : List ℕ) (z : ℕ) → u.told ≡ Some g
@@ -151,40 +163,48 @@ pointer_is {named} {g} {u} {v} pointers z told are seq low h j e =
     let same = (read_as {v = u} told there.0 there.1).geometry in
     let conv = ap (λ (h : Shape). h.conv) same in
     let count = ap (λ (h : Shape). zone_count h) same in
-    (there.2.later z (omega arith)).held ∙ sym ((are there.0 there.1).sequential z (omega (arith, seq, conv)) (omega (arith, low, count)))
+    (there.2.later z (omega arith)).held
+        ∙ sym ((are there.0 there.1).sequential z (omega (arith, seq, conv)) (omega (arith, low, count)))
 
 -- pointers
 
 pub rounded_none : {g : Shape} {named : List Bool} (n : ℕ) (p : List ℕ) → n ≡ g.conv → AreRoundedUp g named n p p
 rounded_none {g} {named} n p first = record {
   count = refl;
-  pads = λ z low cut. absurd (false≢true (sym (conventional_uncut g named z (slice_index p z) (omega (arith, low, first))) ∙ cut));
+  pads = λ z low cut. absurd
+      (false≢true (sym (conventional_uncut g named z (slice_index p z) (omega (arith, low, first))) ∙ cut));
   later = λ z high. refl;
   others = λ z none. refl;
 }
 
-pub rounded_skip : {g : Shape} {named : List Bool} {z : ℕ} {p q : List ℕ} → AreRoundedUp g named z p q → is_cut g named z (slice_index p z) ≡ false
+pub rounded_skip : {g : Shape} {named : List Bool} {z : ℕ} {p q : List ℕ} → AreRoundedUp g named z p q
+    → is_cut g named z (slice_index p z) ≡ false
     → AreRoundedUp g named (z + 1) p q
 rounded_skip {g} {named} {z} {p} {q} h none = record {
   count = h.count;
   pads = λ y low cut. elim (cases_lt y z) [
     | inl under ↦ h.pads y under cut
-    | inr at ↦ (let here : y ≡ z = omega arith in absurd (false≢true (sym none ∙ ap (λ n. is_cut g named n (slice_index p n)) (sym here) ∙ cut)))
+    | inr at ↦ (let here : y ≡ z = omega arith in
+        absurd (false≢true (sym none ∙ ap (λ n. is_cut g named n (slice_index p n)) (sym here) ∙ cut)))
   ];
   later = λ y high. h.later y (omega arith);
   others = h.others;
 }
 
-pub rounded_more : {g : Shape} {named : List Bool} {z : ℕ} {p q : List ℕ} (n : ℕ) → AreRoundedUp g named z p q → z < length q
-    → is_cut g named z (slice_index p z) ≡ true → n ≡ block_end (slice_index p z) → AreRoundedUp g named (z + 1) p (set q z n)
+pub rounded_more : {g : Shape} {named : List Bool} {z : ℕ} {p q : List ℕ} (n : ℕ) → AreRoundedUp g named z p q
+    → z < length q
+    → is_cut g named z (slice_index p z) ≡ true → n ≡ block_end (slice_index p z)
+        → AreRoundedUp g named (z + 1) p (set q z n)
 rounded_more {g} {named} {z} {p} {q} n h low cut is = record {
   count = length-set q z n ∙ h.count;
   pads = λ y under some. elim (cases_eq y z) [
-    | inl here ↦ ap (λ k. get_or (set q z n) k 0) here ∙ get_or-set_same q z n 0 low ∙ is ∙ ap (λ k. block_end (slice_index p k)) (sym here)
+    | inl here ↦ ap (λ k. get_or (set q z n) k 0) here ∙ get_or-set_same q z n 0 low ∙ is
+        ∙ ap (λ k. block_end (slice_index p k)) (sym here)
     | inr other ↦ get_or-set_other q z y n 0 other ∙ h.pads y (omega (arith, under, other)) some
   ];
   later = λ y high. get_or-set_other q z y n 0 (omega arith) ∙ h.later y (omega arith);
-  others = λ y none. get_or-set_other q z y n 0 (λ e. false≢true (sym none ∙ ap (λ k. is_cut g named k (slice_index p k)) e ∙ cut)) ∙ h.others y none;
+  others = λ y none. get_or-set_other q z y n 0
+      (λ e. false≢true (sym none ∙ ap (λ k. is_cut g named k (slice_index p k)) e ∙ cut)) ∙ h.others y none;
 }
 
 module _ {named : List Bool} {g : Shape} {u : View} (told : u.told ≡ Some g) where
@@ -193,7 +213,8 @@ module _ {named : List Bool} {g : Shape} {u : View} (told : u.told ≡ Some g) w
   padded_none n first durable = record {
     padded = turns_here (λ i e. (let conv = ap (λ (h : Shape). h.conv) (read_as {v = u} told i e).geometry in record {
       geometry = refl;
-      pads = λ z low need. absurd (false≢true (sym (conventional_none named i z (omega (arith, low, conv, first))) ∙ need));
+      pads = λ z low need. absurd
+          (false≢true (sym (conventional_none named i z (omega (arith, low, conv, first))) ∙ need));
       later = λ z high. SameZone-refl i z;
       others = λ z none. SameZone-refl i z;
     }));
@@ -203,13 +224,18 @@ module _ {named : List Bool} {g : Shape} {u : View} (told : u.told ≡ Some g) w
       reads = turns_here (λ i e. same_parts i i (Same-refl i));
       left = λ low i e. record {
         earlier = λ k a under can. can;
-        each = λ k a above below can. (let at : k ≡ u.calls = omega arith in let here = subst (λ (m : ℕ). u.left m a) at can in
+        each = λ k a above below can.
+            (let at : k ≡ u.calls = omega arith in let here = subst (λ (m : ℕ). u.left m a) at can in
             (a, here, same_parts i a (durable.left low i e a here)));
       };
     };
-    ascending = record { left = λ low i e k z a above below can under. (durable.left low i e a (subst (λ (n : ℕ). u.left n a) (let f : k ≡ u.calls = omega arith in f) can)).zones z };
-    counted = record { number_is = λ low i e. (let conv = ap (λ (h : Shape). h.conv) (read_as {v = u} told i e).geometry in
-        omega (arith, none_before named i n (λ z under. conventional_none named i z (omega (arith, under, conv, first))))) };
+    ascending = record { left = λ low i e k z a above below can under.
+        (durable.left low i e a
+        (subst (λ (n : ℕ). u.left n a) (let f : k ≡ u.calls = omega arith in f) can)).zones z };
+    counted = record { number_is =
+        λ low i e. (let conv = ap (λ (h : Shape). h.conv) (read_as {v = u} told i e).geometry in
+        omega (arith, none_before named i n
+            (λ z under. conventional_none named i z (omega (arith, under, conv, first))))) };
   }
 
   module _ {z : ℕ} {v : View} (h : HasPaddedTo named z u v) where
@@ -220,11 +246,14 @@ module _ {named : List Bool} {g : Shape} {u : View} (told : u.told ≡ Some g) w
       way = h.way;
       ascending = h.ascending;
       counted = record { number_is = λ low i e. h.counted.number_is low i e
-          ∙ ap (λ n. u.calls + n) (let f : pads_before named i z ≡ pads_before named i (z + 1) = omega (arith, before_more named i z 0 (ap (λ b. cond b 1 0) (none i e))) in f) };
+          ∙ ap (λ n. u.calls + n)
+              (let f : pads_before named i z ≡ pads_before named i (z + 1) =
+              omega (arith, before_more named i z 0 (ap (λ b. cond b 1 0) (none i e))) in f) };
     }
 
     -- it gets one
-    module _ {w : View} (need : WhereTold u.zones (λ i. needs_pad named i z ≡ true)) (call : Calls (λ r. IsPadStep r z) (λ r _. IsPadStep r z) v w) where
+    module _ {w : View} (need : WhereTold u.zones (λ i. needs_pad named i z ≡ true))
+        (call : Calls (λ r. IsPadStep r z) (λ r _. IsPadStep r z) v w) where
       pub way_next : Turns (λ i. IsPadStep i z i) v w → ReachesBy (λ i _. HasPartOfPads named i) u w
       way_next turns = by_then (λ i a b k. k) (λ i j a b c e m is before k step.
           let there = turned h.padded i e in
@@ -235,21 +264,28 @@ module _ {named : List Bool} {g : Shape} {u : View} (told : u.told ≡ Some g) w
       ascending_next = record {
         left = λ low i e k y a above below can under. (
             let there = (turned h.padded i e) in
-            let grows = (turned {P = λ r n. Grows v.calls v.left w.left (IsPadStep r z) (IsPadStep r z)} {u = v} {v = w} (record { reads = call.left low }) there.0 there.1).2 in
+            let grows = (turned {P = λ r n. Grows v.calls v.left w.left (IsPadStep r z) (IsPadStep r z)} {u = v}
+                {v = w} (record { reads = call.left low }) there.0 there.1).2 in
             let one : w.calls ≡ v.calls + 1 = omega (arith, call.calls, low) in
             let fewer : v.calls < 2 ^ 64 - 1 = omega (arith, one, low) in
             let number = h.counted.number_is fewer i e in
             let order = h.way.order in
             elim (cases_lt k v.calls) [
-              | inl early ↦ h.ascending.left fewer i e k y a above (omega (arith, early)) (grows.only k a early can) under
+              | inl early ↦ h.ascending.left fewer i e k y a above (omega (arith, early))
+                  (grows.only k a early can) under
               | inr late ↦
-                  let other : y ≢ z = λ f. (let same = ap (λ n. pads_before named i n) f in omega (arith, same, under, late, number)) in
+                  let other : y ≢ z = λ f.
+                      (let same = ap (λ n. pads_before named i n) f in omega (arith, same, under, late, number)) in
                   let step : (d : Image) × v.left v.calls d × IsPadStep there.0 z d a = elim (cases_lt v.calls k) [
-                    | inl over ↦ grows.returned a (subst (λ (n : ℕ). w.left n a) (let f : k ≡ v.calls + 1 = omega (arith, over, below, one) in f) can)
-                    | inr at ↦ grows.under_way a (subst (λ (n : ℕ). w.left n a) (let f : k ≡ v.calls = omega (arith, at, late) in f) can)
+                    | inl over ↦ grows.returned a
+                        (subst (λ (n : ℕ). w.left n a)
+                        (let f : k ≡ v.calls + 1 = omega (arith, over, below, one) in f) can)
+                    | inr at ↦ grows.under_way a
+                        (subst (λ (n : ℕ). w.left n a) (let f : k ≡ v.calls = omega (arith, at, late) in f) can)
                   ] in
                   SameZone-trans i step.0 a y
-                  (h.ascending.left fewer i e v.calls y step.0 order (omega arith) step.1 (omega (arith, late, under)))
+                  (h.ascending.left fewer i e v.calls y step.0 order (omega arith) step.1
+                      (omega (arith, late, under)))
                   (step.2.others y other)
             ]);
       }

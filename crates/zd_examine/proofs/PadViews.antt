@@ -33,7 +33,8 @@ Some-get : {X : Type 0} (o : Option X) → IsSome o → (x : X) × (o ≡ Some x
 Some-get None h = absurd (let f : ⊥ = cc in f)
 Some-get (Some x) h = (x, refl)
 
-module _ {g : Shape} {c : Choice} {bytes reported : List ℕ} {named : List Bool} {u v w : View} (made : Turns (HasMade g c bytes reported) u v)
+module _ {g : Shape} {c : Choice} {bytes reported : List ℕ} {named : List Bool} {u v w : View}
+    (made : Turns (HasMade g c bytes reported) u v)
     (way : ReachesBy (λ i _. HasPartOfPads named i) v w) where
   -- what was made of what the disk first read as
   made_of : (old j : Image) → u.zones ≡ Some old → v.zones ≡ Some j → HasMade g c bytes reported old j
@@ -41,9 +42,11 @@ module _ {g : Shape} {c : Choice} {bytes reported : List ℕ} {named : List Bool
       let there = turned made old e in
       subst (HasMade g c bytes reported old) (Some-same there.0 j (sym there.1 ∙ m)) there.2
 
-  same_then : (old j : Image) → HasMade g c bytes reported old j → (i : Image) → IsImage i → HasPartOfPads named j i → IsSameVolume old i
+  same_then : (old j : Image) → HasMade g c bytes reported old j → (i : Image) → IsImage i
+      → HasPartOfPads named j i → IsSameVolume old i
   same_then old j h i after parts =
-      volume_padded j i h.third after parts old (subst IsShape (sym (h.equal.only.geometry ∙ h.same.geometry)) h.shape)
+      volume_padded j i h.third after parts old
+          (subst IsShape (sym (h.equal.only.geometry ∙ h.same.geometry)) h.shape)
       (same_volume g c bytes reported old h.middle j h.first h.second h.third h.shape h.same h.examined h.keeps)
 
   pub pads_way : ReachesBy IsLeftOrKept u v → ReachesBy IsLeftOrKept u w
@@ -51,7 +54,8 @@ module _ {g : Shape} {c : Choice} {bytes reported : List ℕ} {named : List Bool
       (λ i j a b d e m after here k parts. inr (same_then i j (made_of i j e m) d after parts)) before way
 
   -- what may be left from the first pad on
-  left_parts : w.calls < 2 ^ 64 - 1 → (old j : Image) → u.zones ≡ Some old → v.zones ≡ Some j → (k : ℕ) (i : Image) → v.calls ≤ k → k ≤ w.calls
+  left_parts : w.calls < 2 ^ 64 - 1 → (old j : Image) → u.zones ≡ Some old → v.zones ≡ Some j
+      → (k : ℕ) (i : Image) → v.calls ≤ k → k ≤ w.calls
       → w.left k i → HasPartOfPads named j i
   left_parts low old j e m k i above below can = ((way.left low j m).each k i above below can).2
 
@@ -61,23 +65,28 @@ module _ {g : Shape} {c : Choice} {bytes reported : List ℕ} {named : List Bool
         let there = turned made old e in
         let later = way.order in
         elim (cases_lt k v.calls) [
-          | inl early ↦ before.left (omega (arith, low, later)) old e k i above (omega (arith, early)) ((way.left low there.0 there.1).earlier k i early can)
-          | inr late ↦ inr (same_then old there.0 there.2 i (w.leaves k i below can).0 (left_parts low old there.0 e there.1 k i late below can))
+          | inl early ↦ before.left (omega (arith, low, later)) old e k i above (omega (arith, early))
+              ((way.left low there.0 there.1).earlier k i early can)
+          | inr late ↦ inr (same_then old there.0 there.2 i (w.leaves k i below can).0
+              (left_parts low old there.0 e there.1 k i late below can))
         ]);
   }
 
   module _ (placed : IsPlacedChoice g c) where
     pub pads_leave : BitsFollowRules g (slice_index reported) (tables_in g c.head.layout bytes)
-        → w.calls < 2 ^ 64 - 1 → WhereTold u.zones (λ old. (i : Image) → w.left w.calls i → ServesContent g c bytes old i)
+        → w.calls < 2 ^ 64 - 1
+            → WhereTold u.zones (λ old. (i : Image) → w.left w.calls i → ServesContent g c bytes old i)
     pads_leave bits low old e i can =
         let there = turned made old e in
         let h = there.2 in
         let later = way.order in
-        content_served old h.middle there.0 h.first h.second h.third h.shape h.same h.examined placed h.equal i (w.leaves w.calls i (omega arith) can).0
+        content_served old h.middle there.0 h.first h.second h.third h.shape h.same h.examined placed h.equal i
+            (w.leaves w.calls i (omega arith) can).0
         (left_parts low old there.0 e there.1 w.calls i later (omega arith) can) bits
 
     -- the zones that need a pad are the same ones
-    before_same : (old j : Image) → HasMade g c bytes reported old j → (z : ℕ) → pads_before named j z ≡ pads_before named old z
+    before_same : (old j : Image) → HasMade g c bytes reported old j → (z : ℕ)
+        → pads_before named j z ≡ pads_before named old z
     before_same old j h z =
         let whole : z ≡ z - 0 = omega arith in
         ap (λ (n : ℕ). count_by (needs_pad named j) (range_with_len 0 n)) whole
@@ -93,13 +102,18 @@ module _ {g : Shape} {c : Choice} {bytes reported : List ℕ} {named : List Bool
         let number = counted.number_is (omega (arith, low, later)) old e in
         let number_there = before_same old there.0 h z in
         elim (cases_lt z old.geometry.conv) [
-          | inl conv ↦ (let none = none_before named old z (λ y less. conventional_none named old y (omega (arith, less, conv))) in absurd (omega (arith, none, from, under)))
+          | inl conv ↦ (let none =
+              none_before named old z (λ y less. conventional_none named old y (omega (arith, less, conv))) in
+              absurd (omega (arith, none, from, under)))
           | inr seq ↦ SameZone-trans old there.0 i z
-              (sequential_same old h.middle there.0 h.first h.second h.third h.shape h.same h.examined placed h.equal z seq)
-              (ascending.left low there.0 there.1 k z i (omega (arith, number, from)) below can (omega (arith, number, number_there, under)))
+              (sequential_same old h.middle there.0 h.first h.second h.third h.shape h.same h.examined placed
+                  h.equal z seq)
+              (ascending.left low there.0 there.1 k z i (omega (arith, number, from)) below can
+                  (omega (arith, number, number_there, under)))
         ]
 
-    pub pads_counted : named ≡ named_flags g (tables_in g c.head.layout bytes) → MadeOf (set_calls c) u v → v.calls ≤ w.calls → MadeOf (pad_count named) v w
+    pub pads_counted : named ≡ named_flags g (tables_in g c.head.layout bytes) → MadeOf (set_calls c) u v
+        → v.calls ≤ w.calls → MadeOf (pad_count named) v w
         → MadeOf (open_calls c) u w
     pads_counted flags before later pads = record {
       number_is = λ low old e. (
@@ -108,11 +122,16 @@ module _ {g : Shape} {c : Choice} {bytes reported : List ℕ} {named : List Bool
           let one = before.number_is (omega (arith, low, later)) old e in
           let two = pads.number_is low there.0 there.1 in
           let count = before_same old there.0 h (zone_count there.0.geometry) in
-          let size = ap (λ (s : Shape). pads_before named old (zone_count s)) (h.equal.only.geometry ∙ h.same.geometry) in
+          let size = ap (λ (s : Shape). pads_before named old (zone_count s))
+              (h.equal.only.geometry ∙ h.same.geometry) in
           let tables = tables_of_set g c bytes reported h.middle h.examined
-          ∙ tables_of_same old h.middle (chosen_of c) h.first h.shape h.same (was_well_formed g c bytes reported old h.middle there.0 h.first h.second h.third h.shape h.same h.examined).is_chosen
-          (was_well_formed g c bytes reported old h.middle there.0 h.first h.second h.third h.shape h.same h.examined).layout in
-          let same : named ≡ flags_in old (chosen_of c) = flags ∙ ap₂ named_flags (h.examined.geometry ∙ h.same.geometry) tables in
+          ∙ tables_of_same old h.middle (chosen_of c) h.first h.shape h.same
+              (was_well_formed g c bytes reported old h.middle there.0 h.first h.second h.third h.shape h.same
+              h.examined).is_chosen
+          (was_well_formed g c bytes reported old h.middle there.0 h.first h.second h.third h.shape h.same
+              h.examined).layout in
+          let same : named ≡ flags_in old (chosen_of c) = flags
+              ∙ ap₂ named_flags (h.examined.geometry ∙ h.same.geometry) tables in
           let all = ap (λ (fs : List Bool). pad_count fs old) same in
           omega (arith, one, two, count, size, all));
     }
@@ -122,7 +141,8 @@ module _ {g : Shape} {c : Choice} {bytes reported : List ℕ} {named : List Bool
       pub pads_opened : (rounded : List ℕ) → AreRoundedUp g named (zone_count g) reported rounded
           → Turns (IsOpened g c bytes rounded named) u w
       pads_opened rounded up = turns_with (λ old j new e m after h k.
-          opened old h.middle j h.first h.second h.third h.shape h.same h.examined placed h.equal new after rounded up k size) made padded
+          opened old h.middle j h.first h.second h.third h.shape h.same h.examined placed h.equal new after
+              rounded up k size) made padded
 
       pub pads_hold : Holds (HoldsBothSets g c bytes) w
       pads_hold = record {
@@ -130,13 +150,15 @@ module _ {g : Shape} {c : Choice} {bytes reported : List ℕ} {named : List Bool
             let pads = turned_back padded i e in
             let before = turned_back made pads.0 pads.1 in
             let h = before.2 in
-            sets_held before.0 h.middle pads.0 h.first h.second h.third h.shape h.same h.examined placed h.equal i (w.shaped i e) (padded_parts pads.2));
+            sets_held before.0 h.middle pads.0 h.first h.second h.third h.shape h.same h.examined placed h.equal
+                i (w.shaped i e) (padded_parts pads.2));
         left = λ low i can. (
             let now = Some-get w.zones (w.leaves w.calls i (omega arith) can).2 in
             let pads = turned_back padded now.0 now.1 in
             let before = turned_back made pads.0 pads.1 in
             let h = before.2 in
-            sets_held before.0 h.middle pads.0 h.first h.second h.third h.shape h.same h.examined placed h.equal i (w.leaves w.calls i (omega arith) can).0
+            sets_held before.0 h.middle pads.0 h.first h.second h.third h.shape h.same h.examined placed h.equal
+                i (w.leaves w.calls i (omega arith) can).0
             (left_parts low before.0 pads.0 before.1 pads.1 w.calls i way.order (omega arith) can));
       }
 
@@ -145,7 +167,9 @@ module _ {g : Shape} {c : Choice} {bytes reported : List ℕ} {named : List Bool
         left = λ low now e i can. (
             let pads = turned_back padded now e in
             let before = turned_back made pads.0 pads.1 in
-            short_of pads.0 now i pads.2 (left_parts low before.0 pads.0 before.1 pads.1 w.calls i way.order (omega arith) can) (omega (arith, size)));
+            short_of pads.0 now i pads.2
+                (left_parts low before.0 pads.0 before.1 pads.1 w.calls i way.order (omega arith) can)
+                (omega (arith, size)));
       }
 
 -- the calls that pad a disk, and the pointers then
@@ -157,8 +181,10 @@ pub record HasPads (g : Shape) (named : List Bool) (reported rounded : List ℕ)
   pub counted : MadeOf (pad_count named) v w
 
 pub opening_is : {x : Volume} {reported : List ℕ} {u v w : View} → v.told ≡ Some x.geometry
-    → IsUsable x.geometry x.chosen x.blocks reported x.named.items → Turns (HasMade x.geometry x.chosen x.blocks reported) u v
-    → MadeOf (set_calls x.chosen) u v → HasPads x.geometry x.named.items reported x.pointers.items v w → IsOpening x u w
+    → IsUsable x.geometry x.chosen x.blocks reported x.named.items
+        → Turns (HasMade x.geometry x.chosen x.blocks reported) u v
+    → MadeOf (set_calls x.chosen) u v → HasPads x.geometry x.named.items reported x.pointers.items v w
+        → IsOpening x u w
 opening_is {x} {reported} {u} {v} {w} told usable made sets h =
     let size = flag_count usable in
     record {

@@ -28,7 +28,8 @@ use Rattle.zd_examine.proofs.PadSteps.{conventional_none, conventional_uncut, pa
 use Rattle.zd_examine.proofs.ChosenHead.{chosen_head}
 
 -- an image with a part of its pads, cut back to the pointers before, holds the same as before
-module _ {named : List Bool} (j i : Image) (image : IsImage j) (after : IsImage i) (parts : HasPartOfPads named j i) where
+module _ {named : List Bool} (j i : Image) (image : IsImage j) (after : IsImage i)
+    (parts : HasPartOfPads named j i) where
   abbrev pub cut_back : Image
   cut_back = image_at j.geometry j.held i.sector
 
@@ -57,8 +58,11 @@ module _ {named : List Bool} (j i : Image) (image : IsImage j) (after : IsImage 
   }
 
   -- so the same set is chosen, and serves the same
-  pub padded_volume : (c : Chosen) → IsShape j.geometry → IsWellFormed j c → IsWellFormed i c × (content i c ≡ content j c)
-  padded_volume c shape well = subst (λ (g : Shape). IsWellFormed (image_at g i.held i.sector) c × (content (image_at g i.held i.sector) c ≡ content j c))
+  pub padded_volume : (c : Chosen) → IsShape j.geometry → IsWellFormed j c → IsWellFormed i c
+      × (content i c ≡ content j c)
+  padded_volume c shape well =
+      subst (λ (g : Shape). IsWellFormed (image_at g i.held i.sector) c
+      × (content (image_at g i.held i.sector) c ≡ content j c))
       (sym parts.geometry) (here, content_of_same j (image_at j.geometry j.held i.sector) c image shape cut_same well)
     where
       cut : IsWellFormed (image_at j.geometry j.held i.sector) c
@@ -72,7 +76,8 @@ module _ {named : List Bool} (j i : Image) (image : IsImage j) (after : IsImage 
         map = cut.map;
         bits = record {
           named = cut.bits.named;
-          below = λ z x far low within valid. (let under = cut.bits.below z x far low within valid in omega (arith, under, higher z));
+          below = λ z x far low within valid.
+              (let under = cut.bits.below z x far low within valid in omega (arith, under, higher z));
           one_place = cut.bits.one_place;
         };
       }
@@ -83,7 +88,8 @@ module _ {named : List Bool} (j i : Image) (image : IsImage j) (after : IsImage 
       (v.0, v.1, record { set = v.2.set; well_formed = here.0; same = here.1 ∙ v.2.same })
 
 -- what was examined, and had both sets made equal
-module _ {g : Shape} {c : Choice} {bytes reported : List ℕ} (middle new : Image) (some : 0 < g.zone_blocks) (e : IsExamined g c bytes reported middle)
+module _ {g : Shape} {c : Choice} {bytes reported : List ℕ} (middle new : Image) (some : 0 < g.zone_blocks)
+    (e : IsExamined g c bytes reported middle)
     (placed : IsPlacedChoice g c) (equal : IsMadeEqual g c (used_blocks g c.head.layout) middle new) where
   -- stays so in an image that holds the same
   pub equal_same : (k : Image) → IsImage new → Same new k → IsMadeEqual g c (used_blocks g c.head.layout) middle k
@@ -95,12 +101,16 @@ module _ {g : Shape} {c : Choice} {bytes reported : List ℕ} (middle new : Imag
       let there = placed.other in
       record {
         only = only_then (InSet g c.other 0 (used_blocks g c.head.layout)) middle new k equal.only
-            (only_more (λ z x. ⊥) (InSet g c.other 0 (used_blocks g c.head.layout)) new k (λ z x wrong. absurd wrong) none);
-        super = same_good new k c.other none.geometry (none.elsewhere c.other 0 (omega (arith, conv, there)) (omega (arith, blocks, some)) (λ wrong. wrong))
+            (only_more (λ z x. ⊥) (InSet g c.other 0 (used_blocks g c.head.layout)) new k
+                (λ z x wrong. absurd wrong) none);
+        super = same_good new k c.other none.geometry
+            (none.elsewhere c.other 0 (omega (arith, conv, there)) (omega (arith, blocks, some)) (λ wrong. wrong))
             ∙ equal.super;
-        each = λ n above below. set_still g c.other (λ z x. ⊥) new k some shape none n (there_inside g c bytes placed some n below) (λ wrong. wrong)
+        each = λ n above below. set_still g c.other (λ z x. ⊥) new k some shape none n
+            (there_inside g c bytes placed some n below) (λ wrong. wrong)
             ∙ equal.each n above below;
-        kept = λ n below. set_still g c.zone (λ z x. ⊥) new k some shape none n (here_inside g c bytes placed some n below) (λ wrong. wrong)
+        kept = λ n below. set_still g c.zone (λ z x. ⊥) new k some shape none n
+            (here_inside g c bytes placed some n below) (λ wrong. wrong)
             ∙ equal.kept n below;
       }
 
@@ -116,10 +126,12 @@ module _ {g : Shape} {c : Choice} {bytes reported : List ℕ} (middle new : Imag
 
   here_held : HoldsSet g c.zone (used_blocks g c.head.layout) c.head bytes new
   here_held = record {
-    super = same_good middle new c.zone equal.only.geometry (sym (first_block new c.zone) ∙ equal.kept 0 (omega arith) ∙ first_block middle c.zone)
+    super = same_good middle new c.zone equal.only.geometry
+        (sym (first_block new c.zone) ∙ equal.kept 0 (omega arith) ∙ first_block middle c.zone)
         ∙ subst (λ (h : Shape). good_super middle c.zone ≡ Some (head_at h c.zone c.head)) (sym e.geometry)
         (chosen_head middle c (subst (λ (h : Shape). IsPlacedChoice h c) e.geometry placed) e.well_formed.is_chosen);
-    each = λ k above below. equal.kept k below ∙ sym (e.blocks.each k (subst (λ (h : Shape). k < used_blocks h c.head.layout) e.geometry below));
+    each = λ k above below. equal.kept k below
+        ∙ sym (e.blocks.each k (subst (λ (h : Shape). k < used_blocks h c.head.layout) e.geometry below));
   }
 
   pub both_held : HoldsBothSets g c bytes new
@@ -135,8 +147,10 @@ module _ {g : Shape} {c : Choice} {bytes reported : List ℕ} (middle new : Imag
   ]
 
 -- the whole, from a disk that was examined
-module _ {g : Shape} {c : Choice} {bytes reported : List ℕ} (old middle j : Image) (first : IsImage old) (second : IsImage middle) (third : IsImage j)
-    (shape : IsShape old.geometry) (same : Same old middle) (e : IsExamined g c bytes reported middle) (placed : IsPlacedChoice g c)
+module _ {g : Shape} {c : Choice} {bytes reported : List ℕ} (old middle j : Image) (first : IsImage old)
+    (second : IsImage middle) (third : IsImage j)
+    (shape : IsShape old.geometry) (same : Same old middle) (e : IsExamined g c bytes reported middle)
+        (placed : IsPlacedChoice g c)
     (equal : IsMadeEqual g c (used_blocks g c.head.layout) middle j) where
   some : 0 < g.zone_blocks
   some = let size = (subst IsShape (sym (e.geometry ∙ same.geometry)) shape).size.least in omega (arith, size)
@@ -153,7 +167,8 @@ module _ {g : Shape} {c : Choice} {bytes reported : List ℕ} (old middle j : Im
     | inl conv ↦
         let size = ap (λ (h : Shape). h.conv) (equal.only.geometry ∙ same.geometry) in
         conventional_none named j z (omega (arith, conv, size)) ∙ sym (conventional_none named old z conv)
-    | inr seq ↦ ap₂ (λ (h : Shape) (p : ℕ). is_cut h named z p) (equal.only.geometry ∙ same.geometry) (sequential_same z seq).held
+    | inr seq ↦ ap₂ (λ (h : Shape) (p : ℕ). is_cut h named z p) (equal.only.geometry ∙ same.geometry)
+        (sequential_same z seq).held
   ]
 
   -- with pads in part
@@ -163,7 +178,8 @@ module _ {g : Shape} {c : Choice} {bytes reported : List ℕ} (old middle j : Im
       where
         cut : HoldsBothSets g c bytes (image_at j.geometry j.held i.sector)
         cut = both_held middle (image_at j.geometry j.held i.sector) some e placed
-            (equal_same middle j some e placed equal (image_at j.geometry j.held i.sector) third (cut_same j i third after parts))
+            (equal_same middle j some e placed equal (image_at j.geometry j.held i.sector) third
+                (cut_same j i third after parts))
 
         here : HoldsBothSets g c bytes (image_at j.geometry i.held i.sector)
         here = record {
@@ -171,10 +187,13 @@ module _ {g : Shape} {c : Choice} {bytes reported : List ℕ} (old middle j : Im
           second = record { super = cut.second.super; each = cut.second.each };
         }
 
-    pub content_served : BitsFollowRules g (slice_index reported) (tables_in g c.head.layout bytes) → ServesContent g c bytes old i
+    pub content_served : BitsFollowRules g (slice_index reported) (tables_in g c.head.layout bytes)
+        → ServesContent g c bytes old i
     content_served bits = record {
-      served = served_is g c bytes reported old middle (image_at j.geometry j.held i.sector) first second (cut_image j i third after parts) shape same e placed
-          (equal_same middle j some e placed equal (image_at j.geometry j.held i.sector) third (cut_same j i third after parts));
+      served = served_is g c bytes reported old middle (image_at j.geometry j.held i.sector) first second
+          (cut_image j i third after parts) shape same e placed
+          (equal_same middle j some e placed equal (image_at j.geometry j.held i.sector) third
+              (cut_same j i third after parts));
       bits = record {
         named = bits.named;
         below = λ z x far low within valid. (
@@ -189,7 +208,9 @@ module _ {g : Shape} {c : Choice} {bytes reported : List ℕ} (old middle j : Im
     }
 
   -- with all pads
-  module _ {named : List Bool} (w : Image) (after : IsImage w) (rounded : List ℕ) (up : AreRoundedUp g named (zone_count g) reported rounded) (padded : IsPadded named (zone_count g) j w) (size : length named ≡ zone_count g) where
+  module _ {named : List Bool} (w : Image) (after : IsImage w) (rounded : List ℕ)
+      (up : AreRoundedUp g named (zone_count g) reported rounded) (padded : IsPadded named (zone_count g) j w)
+      (size : length named ≡ zone_count g) where
     geometries : w.geometry ≡ g
     geometries = padded.geometry ∙ equal.only.geometry ∙ sym e.geometry
 
@@ -200,14 +221,16 @@ module _ {g : Shape} {c : Choice} {bytes reported : List ℕ} (old middle j : Im
           let here : z < g.conv = subst (λ (h : Shape). z < h.conv) geometries low in
           up.others z (conventional_uncut g named z (slice_index reported z) here)
           ∙ e.pointers.conventional z (subst (λ (h : Shape). z < h.conv) e.geometry here));
-      sequential = λ z seq low. at z (subst (λ (h : Shape). h.conv ≤ z) geometries seq) (subst (λ (h : Shape). z < zone_count h) geometries low);
+      sequential = λ z seq low. at z (subst (λ (h : Shape). h.conv ≤ z) geometries seq)
+          (subst (λ (h : Shape). z < zone_count h) geometries low);
     }
       where
         at : (z : ℕ) → g.conv ≤ z → z < zone_count g → slice_index rounded z ≡ w.held z
         at z seq low = by_cut (is_cut g named z (slice_index reported z)) refl
           where
             was : slice_index reported z ≡ j.held z
-            was = e.pointers.sequential z (subst (λ (h : Shape). h.conv ≤ z) e.geometry seq) (subst (λ (h : Shape). z < zone_count h) e.geometry low)
+            was = e.pointers.sequential z (subst (λ (h : Shape). h.conv ≤ z) e.geometry seq)
+                (subst (λ (h : Shape). z < zone_count h) e.geometry low)
                 ∙ sym (equal.only.sequential z (subst (λ (h : Shape). h.conv ≤ z) e.geometry seq)).held
 
             need : needs_pad named j z ≡ is_cut g named z (slice_index reported z)
@@ -222,8 +245,10 @@ module _ {g : Shape} {c : Choice} {bytes reported : List ℕ} (old middle j : Im
       geometry = sym geometries;
       stays = padded.geometry ∙ equal.only.geometry ∙ same.geometry;
       well_formed = was_well_formed g c bytes reported old middle w first second after shape same e;
-      served = served_is g c bytes reported old middle (image_at j.geometry j.held w.sector) first second (cut_image j w third after (padded_parts padded)) shape same e placed
-          (equal_same middle j some e placed equal (image_at j.geometry j.held w.sector) third (cut_same j w third after (padded_parts padded)));
+      served = served_is g c bytes reported old middle (image_at j.geometry j.held w.sector) first second
+          (cut_image j w third after (padded_parts padded)) shape same e placed
+          (equal_same middle j some e placed equal (image_at j.geometry j.held w.sector) third
+              (cut_same j w third after (padded_parts padded)));
       pointers = pointers_padded;
       pads = λ z need. elim (cases_lt z old.geometry.conv) [
         | inl conv ↦ absurd (false≢true (sym (conventional_none named old z conv) ∙ need))
@@ -235,11 +260,13 @@ module _ {g : Shape} {c : Choice} {bytes reported : List ℕ} (old middle j : Im
           | inr past ↦ absurd (false≢true (sym (past_none named old z (omega (arith, past, size))) ∙ need))
         ]
       ];
-      others = λ z seq none. SameZone-trans old j w z (sequential_same z seq) (padded.others z (need_same named z ∙ none));
+      others = λ z seq none. SameZone-trans old j w z (sequential_same z seq)
+          (padded.others z (need_same named z ∙ none));
     }
 
 -- an image with parts of the pads lacks no more than their ends
-pub short_of : {named : List Bool} {upto : ℕ} (j now i : Image) → IsPadded named upto j now → HasPartOfPads named j i → length named ≤ upto → IsShortOf now i
+pub short_of : {named : List Bool} {upto : ℕ} (j now i : Image) → IsPadded named upto j now
+    → HasPartOfPads named j i → length named ≤ upto → IsShortOf now i
 short_of {named} {upto} j now i whole parts size = record {
   geometry = parts.geometry ∙ sym whole.geometry;
   conventional = λ z low. (
@@ -256,8 +283,10 @@ short_of {named} {upto} j now i whole parts size = record {
     ]
 
     held_by : (z : ℕ) (b : Bool) → needs_pad named j z ≡ b → i.held z ≤ now.held z
-    held_by z true need = (let all = (pad_at z need).held in let most = (parts.pads z need).most in omega (arith, all, most))
-    held_by z false none = (let one = (whole.others z none).held in let two = (parts.others z none).held in omega (arith, one, two))
+    held_by z true need =
+        (let all = (pad_at z need).held in let most = (parts.pads z need).most in omega (arith, all, most))
+    held_by z false none =
+        (let one = (whole.others z none).held in let two = (parts.others z none).held in omega (arith, one, two))
 
     sector_by : (z n : ℕ) → n < i.held z → (b : Bool) → needs_pad named j z ≡ b → i.sector z n ≡ now.sector z n
     sector_by z n low true need =
@@ -265,7 +294,9 @@ short_of {named} {upto} j now i whole parts size = record {
         let part = parts.pads z need in
         elim (cases_lt n (j.held z)) [
           | inl before ↦ part.before n before ∙ sym (pad.part.before n before)
-          | inr behind ↦ part.zeros n behind low ∙ sym (pad.part.zeros n behind (let most = part.most in let all = pad.held in omega (arith, most, all, low)))
+          | inr behind ↦ part.zeros n behind low
+              ∙ sym (pad.part.zeros n behind
+              (let most = part.most in let all = pad.held in omega (arith, most, all, low)))
         ]
     sector_by z n low false none =
         let same = SameZone-back j now i z (whole.others z none) (parts.others z none) in

@@ -26,13 +26,15 @@ with_all old new n all =
     ap (λ (k : ℕ). take k (new ++ drop (length new) old)) all ∙ take-append_seam new (drop (length new) old)
 
 -- there is a flag for each zone
-pub flag_count : {g : Shape} {c : Choice} {bytes reported : List ℕ} {named : List Bool} → IsUsable g c bytes reported named → length named ≡ zone_count g
+pub flag_count : {g : Shape} {c : Choice} {bytes reported : List ℕ} {named : List Bool}
+    → IsUsable g c bytes reported named → length named ≡ zone_count g
 flag_count {g} {c} {bytes} {reported} {named} u =
     ap (λ (fs : List Bool). length fs) u.flags
     ∙ length-map-range_with_len (has (named_zones (tables_in g c.head.layout bytes))) 0 (zone_count g)
 
 -- pointers stay, where the other set is made equal
-pub pointers_made : {g : Shape} {c : Choice} {bytes reported : List ℕ} {end : ℕ} {s v : View} → Turns (IsMadeEqual g c end) s v
+pub pointers_made : {g : Shape} {c : Choice} {bytes reported : List ℕ} {end : ℕ} {s v : View}
+    → Turns (IsMadeEqual g c end) s v
     → WhereTold s.zones (IsExamined g c bytes reported) → WhereTold v.zones (λ i. ArePointers i reported)
 pointers_made {g} {c} {bytes} {reported} {end} {s} {v} equal found j e =
     let there = turned_back equal j e in
@@ -43,19 +45,23 @@ pointers_made {g} {c} {bytes} {reported} {end} {s} {v} equal found j e =
       conventional = λ z low. was.conventional z (subst (λ (h : Shape). z < h.conv) only.geometry low);
       sequential = λ z seq low. (
           let here : there.0.geometry.conv ≤ z = subst (λ (h : Shape). h.conv ≤ z) only.geometry seq in
-          was.sequential z here (subst (λ (h : Shape). z < zone_count h) only.geometry low) ∙ sym (only.sequential z here).held);
+          was.sequential z here (subst (λ (h : Shape). z < zone_count h) only.geometry low)
+              ∙ sym (only.sequential z here).held);
     }
 
-module _ {g : Shape} {named : List Bool} {reported rounded : List ℕ} (size : length named ≡ zone_count g) (up : AreRoundedUp g named (zone_count g) reported rounded) where
+module _ {g : Shape} {named : List Bool} {reported rounded : List ℕ} (size : length named ≡ zone_count g)
+    (up : AreRoundedUp g named (zone_count g) reported rounded) where
   -- behind all zones there is no pointer to round up
   behind : (z : ℕ) → zone_count g ≤ z → is_cut g named z (slice_index reported z) ≡ false
-  behind z past = rw (get_or-eq_default named false (let e : length named ≤ z = omega (arith, past, size) in e)) (and_no (not (is_conventional g z)))
+  behind z past = rw (get_or-eq_default named false (let e : length named ≤ z = omega (arith, past, size) in e))
+      (and_no (not (is_conventional g z)))
     where
       and_no : (b : Bool) → (b && false) ≡ false
       and_no true = refl
       and_no false = refl
 
-  pointer_by : (P : ℕ → Type 0) (z : ℕ) → (is_cut g named z (slice_index reported z) ≡ true → P (block_end (slice_index reported z)))
+  pointer_by : (P : ℕ → Type 0) (z : ℕ)
+      → (is_cut g named z (slice_index reported z) ≡ true → P (block_end (slice_index reported z)))
       → (is_cut g named z (slice_index reported z) ≡ false → P (slice_index reported z)) → P (slice_index rounded z)
   pointer_by P z cut none = by_cut (is_cut g named z (slice_index reported z)) refl
     where
@@ -71,7 +77,8 @@ module _ {g : Shape} {named : List Bool} {reported rounded : List ℕ} (size : l
     whole = λ z seq flag. pointer_by (λ n. n % 8 ≡ 0) z (λ is. omega arith) (λ is. uncut z seq flag is);
   }
     where
-      uncut : (z : ℕ) → g.conv ≤ z → slice_index_or named z false ≡ true → is_cut g named z (slice_index reported z) ≡ false → slice_index reported z % 8 ≡ 0
+      uncut : (z : ℕ) → g.conv ≤ z → slice_index_or named z false ≡ true
+          → is_cut g named z (slice_index reported z) ≡ false → slice_index reported z % 8 ≡ 0
       uncut z seq flag is =
           let far : is_conventional g z ≡ false = le-ltb z g.conv seq in
           let cut = rw (far, flag) at is in
@@ -81,7 +88,8 @@ module _ {g : Shape} {named : List Bool} {reported rounded : List ℕ} (size : l
           not_false true e = refl
           not_false false e = cc
 
-  pub usable_rounded : {c : Choice} {bytes : List ℕ} → IsUsable g c bytes reported named → IsUsable g c bytes rounded named
+  pub usable_rounded : {c : Choice} {bytes : List ℕ} → IsUsable g c bytes reported named
+      → IsUsable g c bytes rounded named
   usable_rounded {c} {bytes} u = record {
     placed = u.placed;
     size = u.size;
@@ -94,6 +102,7 @@ module _ {g : Shape} {named : List Bool} {reported rounded : List ℕ} (size : l
           pointer_by (λ n. 8 * x + 8 ≤ n) z (λ is. omega (arith, under)) (λ is. under));
       one_place = u.bits.one_place;
     };
-    within = λ z. (let under = u.within z in pointer_by (λ n. n ≤ zone_sectors g) z (λ is. omega (arith, under)) (λ is. under));
+    within = λ z. (let under = u.within z in pointer_by (λ n. n ≤ zone_sectors g) z (λ is. omega (arith, under))
+        (λ is. under));
     flags = u.flags;
   }

@@ -23,7 +23,8 @@ use Rattle.zd_examine.specs.declared.examining.OpenFault.TheVariants.{Device, Me
 
 -- the disk was a volume, and reads so now that it is opened: these tables serve its content from it, and each
 -- sequential zone is as it was, with its pad where it needed one
-pub record IsOpened (g : Shape) (c : Chosen) (bytes reported : List ℕ) (named : List Bool) (old new : Image) : Type 0 where
+pub record IsOpened (g : Shape) (c : Chosen) (bytes reported : List ℕ) (named : List Bool)
+    (old new : Image) : Type 0 where
   pub geometry : g ≡ new.geometry
   pub stays : new.geometry ≡ old.geometry
   pub well_formed : IsWellFormed old (chosen_of c)

@@ -31,20 +31,27 @@ fn settle<D: ZonedDisk>(disk: &mut D) -> Result<Geometry, Failed>
     Ok(geometry)
 }
 
-/// Opens the volume on a disk: flushes, examines, and makes the other set of metadata equal to the
-/// chosen one.
+/// Opens the volume on a disk: flushes, examines, makes the other set of metadata equal to the chosen one,
+/// and pads.
+///
+/// Where the pointer of a sequential zone that the map names stands inside a block, it writes zero sectors up
+/// to the block's end: one call for each such zone, ascending. The pointers that it answers are those then. No
+/// flush comes after.
 ///
 /// `NoSuperBlock`, `Layout`, `BadMap` and `BadBits` come exactly where the disk is no volume, as
 /// [`examine`] tells them; the disk then had one flush and no write. After `Device` and `Memory`, too, a
 /// volume is the same one as before, with the same content.
 ///
 /// Up to Ok it makes one writing call for each used block of the other set after the first that differs,
-/// four more, and two more where the other super block is bad.
+/// four more, two more where the other super block is bad, and one for each pad.
 ///
 /// A stop at any moment of the call leaves the same volume too, where a stop before would have left what
-/// the disk read as. Where it would not have, that is so from the end of the flush on, unless the answer is
-/// `Device`; then, and before the end of the flush, a stop may also leave what it could have left before the
-/// call. After Ok it leaves what the disk reads as.
+/// the disk read as. Where it would not have, that is so from the end of the flush on; before, a stop may also
+/// leave what it could have left before the call. `Device` doesn't tell whether the flush had ended, but for
+/// the number of writing calls: where there were two, it had.
+///
+/// After Ok a stop leaves what the disk reads as, but for sectors of pads that may lack: both sets hold the
+/// chosen head and the answer's blocks, and the tables in these serve the same content.
 pub fn open<D: ZonedDisk>(alloc: Global, disk: &mut D) -> Result<Image, OpenFault>
     ensures ok { IfOk result (λ v. IsOpening v (D.view disk.old) (D.view disk.new)) }
     ensures err { IfErr result (λ fault. WhereTold (D.view disk.old).zones (ExplainsRefusal fault)) }

@@ -26,6 +26,8 @@ mod opened;
 #[cfg(test)]
 mod opening;
 #[cfg(test)]
+mod padding;
+#[cfg(test)]
 mod reads;
 #[cfg(test)]
 mod refusals;
