@@ -1,5 +1,5 @@
 -- The weight of a range, and what a change of a range makes of weights.
-use Rattle.std.proofs.Common.{◌≡◌, ℕ, zero, suc, ◌+◌, ◌-◌, ◌*◌, ◌/◌, ◌%◌, ◌<◌, ◌≤◌, Bool, true, false, not, cond, List, ◌∷◌, length, take, drop, get_or, refl, sym, ap, ap₂, ◌∙◌, arith}
+use Rattle.std.proofs.Common.{◌≡◌, ℕ, zero, suc, ◌+◌, ◌-◌, ◌*◌, ◌/◌, ◌%◌, ◌<◌, ◌≤◌, Bool, true, false, cond, List, length, take, drop, get_or, refl, sym, ap, ap₂, ◌∙◌, arith}
 use Rattle.std.specs.List.{range_with_len, count_by}
 use Rattle.std.specs.Int.{bit_at}
 use Rattle.std.proofs.lemmas.List.{get_or-drop, length-drop, take_all}
@@ -16,7 +16,8 @@ pub count_alike : (f g : ℕ → Bool) (a b n : ℕ) → ((k : ℕ) → k < n �
 count_alike f g a b zero same = refl
 count_alike f g a b (suc n) same =
     let first : f a ≡ g b =
-    (let x : a ≡ a + 0 = omega arith in ap f x) ∙ same 0 (omega arith) ∙ (let y : b + 0 ≡ b = omega arith in ap g y) in
+    (let x : a ≡ a + 0 = omega arith in ap f x) ∙ same 0 (omega arith)
+    ∙ (let y : b + 0 ≡ b = omega arith in ap g y) in
     sum_by-cons (λ (x : ℕ). cond (f x) 1 0) a (range_with_len (a + 1) n)
     ∙ ap₂ (λ (p : Bool) (k : ℕ). cond p 1 0 + k) first
     (count_alike f g (a + 1) (b + 1) n (λ k low.
@@ -40,7 +41,8 @@ count_all (suc n) a = sum_by-cons (λ (x : ℕ). 1) a (range_with_len (a + 1) n)
 -- and one in which none does
 count_none : (n a : ℕ) → count_by (λ _. false) (range_with_len a n) ≡ 0
 count_none zero a = refl
-count_none (suc n) a = (let e = sum_by-cons (λ (x : ℕ). 0) a (range_with_len (a + 1) n) in omega (arith, e, count_none n (a + 1)))
+count_none (suc n) a =
+    (let e = sum_by-cons (λ (x : ℕ). 0) a (range_with_len (a + 1) n) in omega (arith, e, count_none n (a + 1)))
 
 dropped : (bits : List ℕ) (k n : ℕ) → is_set (drop k bits) n ≡ is_set bits (8 * k + n)
 dropped bits k n =
@@ -58,7 +60,8 @@ weight_dropped bits k from end low order =
     ∙ weight_split (drop k bits) (from - 8 * k) (end - from)
     ∙ ap (λ n. weight_of (drop k bits) (from - 8 * k) + n)
     (count_alike (is_set (drop k bits)) (is_set bits) (from - 8 * k) from (end - from) (λ i _.
-    dropped bits k (from - 8 * k + i) ∙ (let e : 8 * k + (from - 8 * k + i) ≡ from + i = omega arith in ap (is_set bits) e)))
+    dropped bits k (from - 8 * k + i)
+    ∙ (let e : 8 * k + (from - 8 * k + i) ≡ from + i = omega arith in ap (is_set bits) e)))
 
 -- the bits from the byte of a block on
 pub weight_rest_of : (bits : List ℕ) (from end : ℕ) → from ≤ end
@@ -82,16 +85,19 @@ weight_three bits from to end first second =
     let part : to ≡ from + (to - from) = omega arith in
     ap (weight_of bits) whole
     ∙ weight_split bits to (end - to)
-    ∙ ap (λ n. n + count_by (is_set bits) (range_with_len to (end - to))) (ap (weight_of bits) part ∙ weight_split bits from (to - from))
+    ∙ ap (λ n. n + count_by (is_set bits) (range_with_len to (end - to)))
+    (ap (weight_of bits) part ∙ weight_split bits from (to - from))
 
 -- where two have the same bits, they have the same weight
 between_alike : (old new : List ℕ) (from end : ℕ) → ((n : ℕ) → from ≤ n → n < end → is_set new n ≡ is_set old n)
     → weight_between new from end ≡ weight_between old from end
 unfolding weight_between
 between_alike old new from end same =
-    count_alike (is_set new) (is_set old) from from (end - from) (λ k low. same (from + k) (omega arith) (omega arith))
+    count_alike (is_set new) (is_set old) from from (end - from)
+    (λ k low. same (from + k) (omega arith) (omega arith))
 
-weight_alike : (old new : List ℕ) (end : ℕ) → ((n : ℕ) → n < end → is_set new n ≡ is_set old n) → weight_of new end ≡ weight_of old end
+weight_alike : (old new : List ℕ) (end : ℕ) → ((n : ℕ) → n < end → is_set new n ≡ is_set old n)
+    → weight_of new end ≡ weight_of old end
 unfolding weight_of
 weight_alike old new end same =
     count_alike (is_set new) (is_set old) 0 0 end (λ k low. (let e : 0 + k ≡ k = omega arith in rw e (same k low)))
@@ -105,7 +111,8 @@ all_valid bits from end all =
 none_valid : (bits : List ℕ) (from end : ℕ) → AllAre false bits from end → weight_between bits from end ≡ 0
 unfolding weight_between
 none_valid bits from end all =
-    count_alike (is_set bits) (λ _. false) from from (end - from) (λ k low. all (from + k) (omega arith) (omega arith))
+    count_alike (is_set bits) (λ _. false) from from (end - from)
+    (λ k low. all (from + k) (omega arith) (omega arith))
     ∙ count_none (end - from) from
 
 -- there are no more valid blocks than blocks
@@ -125,8 +132,10 @@ module _ (old new : List ℕ) (from to end : ℕ) (order : from ≤ to) (inside 
       let high = between_alike old new to end (λ n a _. gives.behind n a) in
       omega (arith, now, before, low, high)
 
-  pub weight_set : GivesOnly true from to old new → weight_of new end + weight_between old from to ≡ weight_of old end + (to - from)
+  pub weight_set : GivesOnly true from to old new
+      → weight_of new end + weight_between old from to ≡ weight_of old end + (to - from)
   weight_set gives = outside true gives ∙ ap (λ n. weight_of old end + n) (all_valid new from to gives.inside)
 
-  pub weight_cleared : GivesOnly false from to old new → weight_of new end + weight_between old from to ≡ weight_of old end
+  pub weight_cleared : GivesOnly false from to old new
+      → weight_of new end + weight_between old from to ≡ weight_of old end
   weight_cleared gives = (let e = none_valid new from to gives.inside in omega (arith, outside false gives, e))

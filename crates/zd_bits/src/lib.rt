@@ -7,7 +7,7 @@
 //!
 //! # What is proved
 //!
-//! `valid`, `set_range`, `clear_range`, `first_valid`, `run_at` and `weight` are exact.
+//! `valid`, `set_range`, `clear_range`, `first_valid`, `run_at`, `weight` and `weight_in` are exact.
 #![tactic(auto)]
 
 ghost use Rattle.std.specs.Prelude.{◌≡◌, ◌+◌, ◌*◌, ◌<◌, ◌≤◌, ◌↔◌, length, true, false, IsTrue};

@@ -1,7 +1,7 @@
 -- What a change of a range of bits makes of what is counted of them.
-use Rattle.std.proofs.Common.{◌≡◌, ◌⊎◌, ℕ, ◌+◌, ◌-◌, ◌<◌, ◌≤◌, ◌^◌, min, true, false, List, Option, Some, None, inl, inr, refl, sym, ◌∙◌, ap, arith}
+use Rattle.std.proofs.Common.{◌≡◌, ◌⊎◌, ℕ, ◌+◌, ◌-◌, ◌<◌, ◌≤◌, min, true, false, List, Option, Some, None, inl, inr, refl, sym, ◌∙◌, ap, arith}
 use Rattle.std.specs.Option.{option_map_or}
-use Rattle.std.proofs.lemmas.Bool.{cases_lt, false≢true}
+use Rattle.std.proofs.lemmas.Bool.{cases_lt}
 use Rattle.zd_model.specs.Tables.{is_set}
 use Rattle.zd_model.proofs.FaultLaws.{none_some, some_is}
 use Rattle.zd_bits.specs.Bits.{AllAre, GivesOnly, IsFirstValid, weight_between, weight_of}
@@ -9,7 +9,8 @@ use Rattle.zd_bits.proofs.BetweenLaws.{weight_three, weight_set, weight_cleared}
 use Rattle.zd_tables.specs.Counts.{IsCounted, IsFirstWithout}
 use Rattle.zd_tables.specs.declared.part.PartCount.{PartCount}
 
-module _ (old new : List ℕ) (from to end : ℕ) (order : from ≤ to) (range : to ≤ end) (count : PartCount) (counted : IsCounted old end count) where
+module _ (old new : List ℕ) (from to end : ℕ) (order : from ≤ to) (range : to ≤ end) (count : PartCount)
+    (counted : IsCounted old end count) where
   -- a range weighs no more than all
   pub range_weight : weight_between old from to ≤ count.weight
   range_weight = omega (arith, weight_three old from to end order range, counted.weight)
@@ -17,13 +18,17 @@ module _ (old new : List ℕ) (from to end : ℕ) (order : from ≤ to) (range :
   -- THE RANGE IS SET
   module _ (some : from < to) (gives : GivesOnly true from to old new) where
     pub set_weight : count.weight - weight_between old from to + (to - from) ≡ weight_of new end
-    set_weight = (let e = weight_set old new from to end order range gives in omega (arith, range_weight, e, counted.weight))
+    set_weight = (let e = weight_set old new from to end order range gives in
+        omega (arith, range_weight, e, counted.weight))
 
-    none_before : (first : Option ℕ) → count.first ≡ first → (n : ℕ) → n < option_map_or (λ k. min k from) first from → is_set new n ≡ false
+    none_before : (first : Option ℕ) → count.first ≡ first → (n : ℕ)
+        → n < option_map_or (λ k. min k from) first from → is_set new n ≡ false
     none_before None is n low = gives.below n low ∙ counted.none is n (omega arith) (omega arith)
-    none_before (Some k) is n low = gives.below n (omega arith) ∙ (counted.some k is).before n (omega arith) (omega arith)
+    none_before (Some k) is n low = gives.below n (omega arith)
+        ∙ (counted.some k is).before n (omega arith) (omega arith)
 
-    set_here : (first : Option ℕ) → count.first ≡ first → is_set new (option_map_or (λ k. min k from) first from) ≡ true
+    set_here : (first : Option ℕ) → count.first ≡ first
+        → is_set new (option_map_or (λ k. min k from) first from) ≡ true
     set_here None is = gives.inside from (omega arith) some
     set_here (Some k) is = elim (cases_lt k from) [
       | inl before ↦ (let e : min k from ≡ k = omega arith in rw e (gives.below k before ∙ (counted.some k is).valid))
@@ -35,7 +40,11 @@ module _ (old new : List ℕ) (from to end : ℕ) (order : from ≤ to) (range :
     low_enough (Some k) = omega arith
 
     pub set_counted : (first : ℕ) → first ≡ option_map_or (λ k. min k from) count.first from
-        → IsCounted new end (record { weight = count.weight - weight_between old from to + (to - from); first = Some first })
+        → IsCounted new end (record {
+          weight = count.weight - weight_between old from to + (to - from);
+          first =
+              Some first;
+        })
     set_counted first is = record {
       weight = set_weight;
       some = λ n e. (
@@ -52,7 +61,8 @@ module _ (old new : List ℕ) (from to end : ℕ) (order : from ≤ to) (range :
   -- THE RANGE IS CLEARED
   module _ (gives : GivesOnly false from to old new) where
     cleared_weight : count.weight - weight_between old from to ≡ weight_of new end
-    cleared_weight = (let e = weight_cleared old new from to end order range gives in omega (arith, range_weight, e, counted.weight))
+    cleared_weight = (let e = weight_cleared old new from to end order range gives in
+        omega (arith, range_weight, e, counted.weight))
 
     -- what was clear is
     stays_clear : (n : ℕ) → is_set old n ≡ false → is_set new n ≡ false
@@ -65,7 +75,8 @@ module _ (old new : List ℕ) (from to end : ℕ) (order : from ≤ to) (range :
     ]
 
     still_set : (n : ℕ) → (n < from) ⊎ (to ≤ n) → is_set old n ≡ true → is_set new n ≡ true
-    still_set n out valid = elim out [ inl below ↦ gives.below n below ∙ valid | inr behind ↦ gives.behind n behind ∙ valid ]
+    still_set n out valid =
+        elim out [ inl below ↦ gives.below n below ∙ valid | inr behind ↦ gives.behind n behind ∙ valid ]
 
     -- the first of all was outside of the range
     kept_first : (k n : ℕ) → IsFirstValid old 0 end k → (k < from) ⊎ (to ≤ k) → k ≡ n → IsFirstValid new 0 end n
@@ -87,9 +98,11 @@ module _ (old new : List ℕ) (from to end : ℕ) (order : from ≤ to) (range :
       some_case : (before : Option ℕ) → count.first ≡ before → (n : ℕ) → first ≡ Some n → IsFirstValid new 0 end n
       some_case None e n some = absurd (none_some n (sym (is.none e) ∙ some))
       some_case (Some k) e n some = elim (cases_lt k from) [
-        | inl below ↦ kept_first k n (counted.some k e) (inl below) (some_is k n (sym (is.outside k e (inl below)) ∙ some))
+        | inl below ↦ kept_first k n (counted.some k e) (inl below)
+            (some_is k n (sym (is.outside k e (inl below)) ∙ some))
         | inr low ↦ elim (cases_lt k to) [
-          | inr behind ↦ kept_first k n (counted.some k e) (inr behind) (some_is k n (sym (is.outside k e (inr behind)) ∙ some))
+          | inr behind ↦ kept_first k n (counted.some k e) (inr behind)
+              (some_is k n (sym (is.outside k e (inr behind)) ∙ some))
           | inl high ↦
               let next = is.some k n e low high some in
               record {
@@ -117,7 +130,8 @@ module _ (old new : List ℕ) (from to end : ℕ) (order : from ≤ to) (range :
         ]
       ]
 
-      pub cleared_counted : IsCounted new end (record { weight = count.weight - weight_between old from to; first = first })
+      pub cleared_counted : IsCounted new end
+          (record { weight = count.weight - weight_between old from to; first = first })
       cleared_counted = record {
         weight = cleared_weight;
         some = some_case count.first refl;

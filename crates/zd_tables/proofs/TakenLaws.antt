@@ -1,5 +1,5 @@
 -- The tables in the blocks of a set are those of the image that has these blocks.
-use Rattle.std.proofs.Common.{◌≡◌, ℕ, zero, suc, ◌+◌, ◌-◌, ◌*◌, ◌/◌, ◌%◌, ◌<◌, ◌≤◌, List, ◌++◌, map, take, drop, refl, sym, ap, ap₂, ◌∙◌, arith}
+use Rattle.std.proofs.Common.{◌≡◌, ℕ, zero, suc, ◌+◌, ◌-◌, ◌*◌, ◌/◌, ◌%◌, ◌<◌, ◌≤◌, List, ◌++◌, map, take, drop, ap, ap₂, ◌∙◌, arith}
 use Rattle.std.proofs.Math.Seq.{take-add}
 use Rattle.std.proofs.lemmas.List.{drop-drop}
 use Rattle.std.proofs.lemmas.Nat.{mul-add-lt}
@@ -12,7 +12,7 @@ use Rattle.zd_model.specs.Volume.{Chosen, bitmap_block, bits_in, entry_in, table
 use Rattle.zd_model.specs.declared.metadata.MapEntry.{MapEntry}
 use Rattle.zd_model.proofs.SameLaws.{same_map}
 use Rattle.zd_sets.specs.Blocks.{blocks_of}
-use Rattle.zd_tables.specs.Tables.{bits_in_blocks, entries_in, entry_in_blocks, tables_in}
+use Rattle.zd_tables.specs.Tables.{bits_in_blocks, entry_in_blocks, tables_in}
 
 -- neighbouring blocks, joined
 pub joined : (bytes : List ℕ) (block : ℕ → List ℕ) (b s k : ℕ)
@@ -36,7 +36,7 @@ joined bytes block b s (suc k) each =
 -- the tables look at no super block
 module _ (image : Image) (c : Chosen) (bytes : List ℕ) (fits : Fits image.geometry c.head.layout)
     (each : (k : ℕ) → 1 ≤ k → k < used_blocks image.geometry c.head.layout
-        → blocks_of bytes k 1 ≡ set_block image c.first k) where
+    → blocks_of bytes k 1 ≡ set_block image c.first k) where
   entry_is : (chunk : ℕ) → chunk < c.head.layout.chunks → entry_in_blocks bytes chunk ≡ entry_in image c chunk
   entry_is chunk low = (let map_fits = fits.map in ap (λ (block : List ℕ). entry_at block (chunk % 512)) (each (1 + chunk / 512) (omega arith) (omega arith)))
 

@@ -1,6 +1,6 @@
 -- What a changed entry, or changed bits of a zone, make of the blocks of a set and of the tables.
 use Rattle.std.specs.Prelude.{◌≡◌, ◌≢◌, ◌⊎◌, ◌↔◌, ℕ, ◌+◌, ◌*◌, ◌/◌, ◌<◌, ◌≤◌, Bool, not}
-use Rattle.std.specs.Prelude.{false, IsTrue, List, length}
+use Rattle.std.specs.Prelude.{false, IsTrue, List}
 use Rattle.zd_base.specs.Geometry.{Shape, per}
 use Rattle.zd_base.specs.Layout.{rounded_up}
 use Rattle.zd_base.specs.declared.layout.Layout.{Layout}

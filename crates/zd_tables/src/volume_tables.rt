@@ -125,8 +125,7 @@ impl VolumeTables {
     /// The bitmap of a zone: which of its blocks are valid.
     pub fn bits(&self, zone: ZoneNo) -> &[u8]
         requires { zone < zone_count self.now.geometry }
-        ensures value {
-            result.now ≡ bits_in_blocks self.now.geometry self.now.layout self.now.bytes zone }
+        ensures value { result.now ≡ bits_in_blocks self.now.geometry self.now.layout self.now.bytes zone }
         ensures count { self.now.geometry.zone_blocks ≤ 8 * length result.now }
     {
         tables::bits(&self.blocks, &self.geometry, &self.layout, zone)
@@ -165,8 +164,7 @@ impl VolumeTables {
     /// The first valid block of a zone. None exactly where it has none. Nothing is searched.
     pub fn first_valid(&self, zone: ZoneNo) -> Option<u32>
         requires { zone < zone_count self.now.geometry }
-        ensures {
-            result ≡ first_valid_block self.now.geometry.zone_blocks (tables_held self.now) zone }
+        ensures { result ≡ first_valid_block self.now.geometry.zone_blocks (tables_held self.now) zone }
     {
         let (first, second) = self.counts_of(zone);
         match first.first {
@@ -180,8 +178,7 @@ impl VolumeTables {
         requires chunk { chunk < self.old.layout.chunks }
         requires zones { NamesZones entry }
         ensures blocks { SetsEntry chunk entry self.old.bytes self.new.bytes }
-        ensures tables {
-            ChangesEntry chunk entry (tables_held self.old) (tables_held self.new) }
+        ensures tables { ChangesEntry chunk entry (tables_held self.old) (tables_held self.new) }
         ensures same { SamePlace self.old self.new }
     {
         let block = self.blocks.block_mut(1 + chunk.0 / ENTRIES);

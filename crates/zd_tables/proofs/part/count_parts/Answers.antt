@@ -1,5 +1,5 @@
 -- One block more is counted.
-use Rattle.std.proofs.Common.{◌≡◌, ℕ, ◌+◌, ◌<◌, List, [], ◌∷◌, ◌++◌, None, length, inl, inr, sym, ap, ◌∙◌, subst, arith, length-append}
+use Rattle.std.proofs.Common.{◌≡◌, ℕ, ◌+◌, ◌<◌, List, [], ◌∷◌, ◌++◌, None, length, inl, inr, subst, arith, length-append}
 use Rattle.std.proofs.Math.Seq.{get_or-append_seam}
 use Rattle.std.proofs.lemmas.Bool.{cases_lt}
 use Rattle.std.proofs.lemmas.List.{get_or_append_left}
@@ -8,10 +8,12 @@ use Rattle.zd_tables.specs.Counts.{IsCounted, count_at}
 use Rattle.zd_tables.specs.declared.part.PartCount.{PartCount}
 use Rattle.zd_tables.proofs.part.count_parts.Goals as goal
 
-module _ (bytes : List ℕ) (first bits i : ℕ) (counts : List PartCount) (count : PartCount) (size : first + length counts ≡ i)
+module _ (bytes : List ℕ) (first bits i : ℕ) (counts : List PartCount) (count : PartCount)
+    (size : first + length counts ≡ i)
     (each : (k : ℕ) → first + k < i → IsCounted (blocks_of bytes (first + k) 1) bits (count_at counts k))
     (next : IsCounted (blocks_of bytes i 1) bits count) where
-  more : (k : ℕ) → first + k < i + 1 → IsCounted (blocks_of bytes (first + k) 1) bits (count_at (counts ++ count ∷ []) k)
+  more : (k : ℕ) → first + k < i + 1 → IsCounted (blocks_of bytes (first + k) 1) bits
+      (count_at (counts ++ count ∷ []) k)
   more k low = elim (cases_lt k (length counts)) [
     | inl before ↦
         rw (get_or_append_left counts (count ∷ []) (record { weight = 0; first = None }) k before)
@@ -26,6 +28,8 @@ pub loop-i-preserved : goal.loop-i-preserved
 loop-i-preserved c =
     let before = c.loop-i.invariant in
     let is = subst (λ (b : List ℕ). IsCounted b c.args.bits c.counted.result) c.block.ensures c.counted.ensures in
-    rw c.in_ok-push.ensures.items
-    (omega (arith, before.0, length-append c.loop-i.counts.items (c.counted.result ∷ [])),
-    more c.args.blocks.now c.args.first c.args.bits c.loop-i.i c.loop-i.counts.items c.counted.result before.0 before.1 is)
+    rw c.in_ok-push.ensures.items (
+      omega (arith, before.0, length-append c.loop-i.counts.items (c.counted.result ∷ [])),
+      more c.args.blocks.now c.args.first c.args.bits c.loop-i.i c.loop-i.counts.items c.counted.result before.0
+          before.1 is,
+    )

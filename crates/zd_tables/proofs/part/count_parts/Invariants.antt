@@ -6,4 +6,5 @@ use Rattle.zd_tables.proofs.part.count_parts.Given as goal
 
 abbrev pub invariant-loop-i : goal.invariant-loop-i
 invariant-loop-i l = (l.first + length l.counts.items ≡ l.i)
-    × ((k : ℕ) → l.first + k < l.i → IsCounted (blocks_of l.blocks (l.first + k) 1) l.bits (count_at l.counts.items k))
+    × ((k : ℕ) → l.first + k < l.i → IsCounted (blocks_of l.blocks (l.first + k) 1) l.bits
+    (count_at l.counts.items k))

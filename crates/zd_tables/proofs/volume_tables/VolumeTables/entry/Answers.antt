@@ -1,5 +1,5 @@
 -- The entry in the blocks is that of the tables.
-use Rattle.std.proofs.Common.{◌<◌, ◌≡◌, ℕ, List, sym, ap, ◌∙◌, subst}
+use Rattle.std.proofs.Common.{◌≡◌, ℕ, List, sym, ap, ◌∙◌}
 use Rattle.zd_tables.specs.Held.{HeldTables}
 use Rattle.zd_tables.specs.Tables.{entry_in_blocks}
 use Rattle.zd_tables.proofs.TableLaws.{entry_is}

@@ -8,4 +8,5 @@ pub returns : goal.returns
 returns c =
     c.valid.ensures
     ∙ ap (λ (bits : List ℕ). is_set bits c.args.block) c.bits.ensures.value
-    ∙ sym (valid_is c.args.self.now.geometry c.args.self.now.layout c.args.self.now.bytes c.args.zone c.args.block c.requires.zone)
+    ∙ sym (valid_is c.args.self.now.geometry c.args.self.now.layout c.args.self.now.bytes c.args.zone
+    c.args.block c.requires.zone)
