@@ -23,14 +23,16 @@ unfolding no_label
 label_is = refl
 
 -- the layout is the one for the geometry
-pub by_rule : (reserved : ℕ) (volume : List ℕ) (layout : Layout) (image : Image) → IsFresh reserved (replicate 32 0) volume layout image
+pub by_rule : (reserved : ℕ) (volume : List ℕ) (layout : Layout) (image : Image) → IsFresh reserved
+    (replicate 32 0) volume layout image
     → IsFresh reserved no_label volume (formatted image.geometry reserved) image
 by_rule reserved volume layout image fresh =
     subst (λ (l : Layout). IsFresh reserved no_label volume l image) fresh.numbers
     (subst (λ (label : List ℕ). IsFresh reserved label volume layout image) label_is fresh)
 
 -- formatting is no answer to wrong words
-no_usage : (reserved : ℕ) (told : Option Shape) (outcome : Outcome) → FormatEnds reserved told outcome → outcome ≡ Usage → ⊥
+no_usage : (reserved : ℕ) (told : Option Shape) (outcome : Outcome) → FormatEnds reserved told outcome
+    → outcome ≡ Usage → ⊥
 no_usage reserved told outcome ends e = subst (FormatEnds reserved told) e ends
 
 -- the cause of an outcome of formatting
@@ -54,9 +56,11 @@ none_earlier words s early = absurd (omega (arith, early))
 no_memory : Memory ≡ Usage → ⊥
 no_memory e = let f = ap admin_status e in omega (arith, f)
 
-module _ (words : List (List ℕ)) (told : Option Shape) {status : ℕ} {held after : Option (List ℕ)} {faults now : ℕ} where
+module _ (words : List (List ℕ)) (told : Option Shape) {status : ℕ} {held after : Option (List ℕ)}
+    {faults now : ℕ} where
   -- the report of words that are no command
-  pub reports_usage : (IsAdminCommand words → ⊥) → TellsMessage (admin_telling Usage) (Unit {0}) status held after faults now
+  pub reports_usage : (IsAdminCommand words → ⊥) → TellsMessage (admin_telling Usage)
+      (Unit {0}) status held after faults now
       → AdminReports words told status held after faults now
   reports_usage wrong tells = record {
     stage = Words;
@@ -67,7 +71,8 @@ module _ (words : List (List ℕ)) (told : Option Shape) {status : ℕ} {held af
   }
 
   -- the report of a run that formatted, or did not
-  pub reports : (reserved : ℕ) (volume : List ℕ) (outcome : Outcome) → AsksFormat words reserved volume → FormatEnds reserved told outcome
+  pub reports : (reserved : ℕ) (volume : List ℕ) (outcome : Outcome) → AsksFormat words reserved volume
+      → FormatEnds reserved told outcome
       → TellsMessage (admin_telling outcome) (IsFixedOutput outcome) status held after faults now
       → AdminReports words told status held after faults now
   reports reserved volume outcome asks ends tells = record {
@@ -86,7 +91,8 @@ pub usage_status : {status : ℕ} → HasStatus 1 status → status ≡ 1
 usage_status (inl is) = is
 usage_status (inr six) = absurd (omega (arith, six.1))
 
-pub no_usage_status : {status : ℕ} (reserved : ℕ) (told : Option Shape) (outcome : Outcome) → FormatEnds reserved told outcome
+pub no_usage_status : {status : ℕ} (reserved : ℕ) (told : Option Shape) (outcome : Outcome)
+    → FormatEnds reserved told outcome
     → HasStatus (admin_status outcome) status ⊎ (status ≡ 7) → status ≡ 1 → ⊥
 no_usage_status reserved told outcome ends (inr is) one = omega (arith, is, one)
 no_usage_status reserved told outcome ends (inl (inr six)) one = let e = six.0 in omega (arith, e, one)
@@ -97,7 +103,8 @@ no_usage_status reserved told Memory ends (inl (inl is)) one = omega (arith, is,
 no_usage_status reserved told Unfit ends (inl (inl is)) one = omega (arith, is, one)
 
 -- the outcome that a status of its own tells
-pub device_of : {status : ℕ} (outcome : Outcome) → HasStatus (admin_status outcome) status ⊎ (status ≡ 7) → status ≡ 4 → outcome ≡ Device
+pub device_of : {status : ℕ} (outcome : Outcome) → HasStatus (admin_status outcome) status ⊎ (status ≡ 7)
+    → status ≡ 4 → outcome ≡ Device
 device_of outcome (inr is) four = absurd (omega (arith, is, four))
 device_of outcome (inl (inr six)) four = absurd (let e = six.0 in omega (arith, e, four))
 device_of (Formatted chunks zone_blocks) (inl (inl is)) four = absurd (omega (arith, is, four))
@@ -106,7 +113,8 @@ device_of Device (inl (inl is)) four = refl
 device_of Memory (inl (inl is)) four = absurd (omega (arith, is, four))
 device_of Unfit (inl (inl is)) four = absurd (omega (arith, is, four))
 
-pub unfit_of : {status : ℕ} (outcome : Outcome) → HasStatus (admin_status outcome) status ⊎ (status ≡ 7) → status ≡ 10 → outcome ≡ Unfit
+pub unfit_of : {status : ℕ} (outcome : Outcome) → HasStatus (admin_status outcome) status ⊎ (status ≡ 7)
+    → status ≡ 10 → outcome ≡ Unfit
 unfit_of outcome (inr is) ten = absurd (omega (arith, is, ten))
 unfit_of outcome (inl (inr six)) ten = absurd (let e = six.0 in omega (arith, e, ten))
 unfit_of (Formatted chunks zone_blocks) (inl (inl is)) ten = absurd (omega (arith, is, ten))
@@ -122,7 +130,8 @@ one_reserved words r s v w a b = one_number r s (third _ _ _ _ _ _ _ _ (sym a.sp
 unfit_at : (r : ℕ) (told : Option Shape) (g : Shape) → IsUnfit r told → IsFormatted r g (formatted g r) told → ⊥
 unfit_at r told g unfit made = subst (IsUnfit r) made.geometry unfit made.fits
 
-one_end : (r : ℕ) (told : Option Shape) (o p : Outcome) → IsAdminDecided o → IsAdminDecided p → FormatEnds r told o → FormatEnds r told p → o ≡ p
+one_end : (r : ℕ) (told : Option Shape) (o p : Outcome) → IsAdminDecided o → IsAdminDecided p
+    → FormatEnds r told o → FormatEnds r told p → o ≡ p
 one_end r told (Formatted chunks zone_blocks) (Formatted more blocks) d e f h =
     let same : f.0 ≡ h.0 = Some-same f.0 h.0 (sym f.1.geometry ∙ h.1.geometry) in
     ap₂ (λ (a b : ℕ). Formatted a b)
@@ -142,7 +151,8 @@ one_end r told Device p d e f h = absurd d
 one_end r told Memory p d e f h = absurd d
 
 -- the words are a command, or they are not; formatting comes last
-usage_at : (words : List (List ℕ)) (told : Option Shape) (o : Outcome) → o ≡ Usage → AdminCause words told o → IsAdminCommand words → ⊥
+usage_at : (words : List (List ℕ)) (told : Option Shape) (o : Outcome) → o ≡ Usage → AdminCause words told o
+    → IsAdminCommand words → ⊥
 usage_at words told o is cause = subst (AdminCause words told) is cause
 
 asked_at : (words : List (List ℕ)) (told : Option Shape) (o : Outcome) → (o ≡ Usage → ⊥) → AdminCause words told o
@@ -153,7 +163,8 @@ asked_at words told Device other cause = cause
 asked_at words told Memory other cause = cause
 asked_at words told Unfit other cause = cause
 
-stage_decides : (words : List (List ℕ)) (told : Option Shape) (stage : Stage) → DecidesAt (admin_course words told) IsAdminDecided stage
+stage_decides : (words : List (List ℕ)) (told : Option Shape) (stage : Stage) → DecidesAt
+    (admin_course words told) IsAdminDecided stage
 stage_decides words told Words = record {
   passed = λ o d is cause right. usage_at words told o is cause right;
   one = λ o p d e is same cause why. is ∙ sym same;
@@ -172,14 +183,17 @@ pub one_outcome : OneAdminOutcome
 one_outcome words told = causes_exclude (admin_course words told) IsAdminDecided (stage_decides words told)
 
 -- where neither disk nor sink failed
-pub ends_well : (words : List (List ℕ)) (reserved : ℕ) (volume : List ℕ) (told : Option Shape) (outcome : Outcome) (status : ℕ)
-    → AsksFormat words reserved volume → FormatEnds reserved told outcome → HasStatus (admin_status outcome) status ⊎ (status ≡ 7)
+pub ends_well : (words : List (List ℕ)) (reserved : ℕ) (volume : List ℕ) (told : Option Shape)
+    (outcome : Outcome) (status : ℕ)
+    → AsksFormat words reserved volume → FormatEnds reserved told outcome
+    → HasStatus (admin_status outcome) status ⊎ (status ≡ 7)
     → (outcome ≡ Device → ⊥) → (status ≡ 6 → ⊥) → EndsWell words told status
 ends_well words reserved volume told outcome status asks ends (inr is) no_device no_sink = inl is
 ends_well words reserved volume told outcome status asks ends (inl (inr six)) no_device no_sink = absurd (no_sink six.0)
 ends_well words reserved volume told (Formatted chunks zone_blocks) status asks ends (inl (inl is)) no_device no_sink =
     inr (inl (is, (reserved, volume, asks, ends.0, ends.1)))
-ends_well words reserved volume told Unfit status asks ends (inl (inl is)) no_device no_sink = inr (inr (is, (reserved, volume, asks, ends)))
+ends_well words reserved volume told Unfit status asks ends (inl (inl is)) no_device no_sink =
+    inr (inr (is, (reserved, volume, asks, ends)))
 ends_well words reserved volume told Memory status asks ends (inl (inl is)) no_device no_sink = inl is
 ends_well words reserved volume told Device status asks ends (inl (inl is)) no_device no_sink = absurd (no_device refl)
 ends_well words reserved volume told Usage status asks ends (inl (inl is)) no_device no_sink = absurd ends

@@ -8,9 +8,10 @@
 //! nothing was written (`unfit`); at 0 and 6 the disk is the volume that was asked for, and so is
 //! every image that a stop may then leave (`ok`, a `Holds`); the run ended in its words or in
 //! formatting, with an outcome whose cause holds, and the output is that of the outcome, whole or
-//! a prefix, or `end 7 memory` (`report`); right words and no failure give 0 where there is room, 10 where there is none, or 7 (`complete`).
-//! `one_outcome` is the law that the causes exclude each other. `paths` gives the words that
-//! stand for the files, none exactly where the words aren't a command.
+//! a prefix, or `end 7 memory` (`report`); right words and no failure give 0 where there is room,
+//! 10 where there is none, or 7 (`complete`). `one_outcome` is the law that the causes exclude
+//! each other. `paths` gives the words that stand for the files, none exactly where the words
+//! aren't a command.
 #![tactic(auto)]
 
 mod laws;

@@ -72,13 +72,16 @@ never_six (outcomes.Ended (endings.Stopped whys.Memory)) is = omega (arith, is)
 never_six (outcomes.Ended (endings.Stopped whys.Generation)) is = omega (arith, is)
 
 -- the status that tells of such an outcome
-pub told_usage : {status : ℕ} (o : Outcome) → HasStatus (outcome_status o) status ⊎ (status ≡ 7) → status ≡ 1 → o ≡ outcomes.Usage
+pub told_usage : {status : ℕ} (o : Outcome) → HasStatus (outcome_status o) status ⊎ (status ≡ 7) → status ≡ 1
+    → o ≡ outcomes.Usage
 told_usage o is one = usage_by o (own_status is (λ e. omega (arith, e, one)) (λ e. omega (arith, e, one)) ∙ one)
 
-pub told_source : {status : ℕ} (o : Outcome) → HasStatus (outcome_status o) status ⊎ (status ≡ 7) → status ≡ 5 → o ≡ outcomes.Source
+pub told_source : {status : ℕ} (o : Outcome) → HasStatus (outcome_status o) status ⊎ (status ≡ 7) → status ≡ 5
+    → o ≡ outcomes.Source
 told_source o is five = source_by o (own_status is (λ e. omega (arith, e, five)) (λ e. omega (arith, e, five)) ∙ five)
 
-pub told_device : {status : ℕ} (o : Outcome) → HasStatus (outcome_status o) status ⊎ (status ≡ 7) → status ≡ 4 → o ≡ no_device
+pub told_device : {status : ℕ} (o : Outcome) → HasStatus (outcome_status o) status ⊎ (status ≡ 7) → status ≡ 4
+    → o ≡ no_device
 told_device o is four = device_by o (own_status is (λ e. omega (arith, e, four)) (λ e. omega (arith, e, four)) ∙ four)
 
 -- in which stages all may be done, and the disk may have failed
@@ -101,7 +104,8 @@ source_at Opening none = absurd none
 source_at Run none = absurd none
 
 -- want of memory for the text may come in a stage, but for the first, whose line is fixed
-pub may_want : (stage : Stage) (history : List HistoryEntry) (outcome : Outcome) → (order_of stage < 1 → history ≡ []) → ReplayComes stage outcome
+pub may_want : (stage : Stage) (history : List HistoryEntry) (outcome : Outcome) →
+    (order_of stage < 1 → history ≡ []) → ReplayComes stage outcome
     → (IsFixedRun history outcome → ⊥) → ReplayComes stage no_memory
 may_want Words history outcome none is free = absurd (free (none (omega arith), subst IsFixedLine (sym is) tt))
 may_want Script history outcome none is free = tt
@@ -109,9 +113,11 @@ may_want Opening history outcome none is free = tt
 may_want Run history outcome none is free = tt
 
 -- the status of a run that ended in a stage and told of it
-pub may_end : {status faults now : ℕ} {held after : Option (List ℕ)} (stage : Stage) (history : List HistoryEntry) (outcome : Outcome)
+pub may_end : {status faults now : ℕ} {held after : Option (List ℕ)} (stage : Stage)
+    (history : List HistoryEntry) (outcome : Outcome)
     → (order_of stage < 1 → history ≡ []) → ReplayComes stage outcome
-    → TellsMessage (replay_telling history outcome) (IsFixedRun history outcome) status held after faults now → ReplayMayEnd stage status
+    → TellsMessage (replay_telling history outcome) (IsFixedRun history outcome) status held after faults now
+    → ReplayMayEnd stage status
 may_end {status} stage history outcome none comes t =
     told_may_end ReplayComes outcome_status stage outcome no_memory (replay_telling history outcome) (IsFixedRun history outcome) status
     comes refl refl (may_want stage history outcome none comes) t.told t.which t.out.answers
@@ -124,7 +130,8 @@ words_status {status} m = by (subst (λ (o : Outcome). HasStatus (outcome_status
     by (inl is) = is
     by (inr six) = absurd (omega (arith, six.1))
 
-script_status : {status : ℕ} (o : Outcome) → EndsScript o → HasStatus (outcome_status o) status → (status ≡ 2) ⊎ ((status ≡ 5) ⊎ ((status ≡ 7) ⊎ (status ≡ 11)))
+script_status : {status : ℕ} (o : Outcome) → EndsScript o → HasStatus (outcome_status o) status →
+    (status ≡ 2) ⊎ ((status ≡ 5) ⊎ ((status ≡ 7) ⊎ (status ≡ 11)))
 script_status outcomes.Source e (inl is) = inr (inl is)
 script_status (outcomes.BadScript line why) e (inl is) = inl is
 script_status outcomes.NotBuilt e (inl is) = inr (inr (inr is))
@@ -139,7 +146,8 @@ script_status (outcomes.Ended endings.Ok) e has = absurd e
 script_status (outcomes.Ended (endings.Stopped whys.Device)) e has = absurd e
 script_status (outcomes.Ended (endings.Stopped whys.Generation)) e has = absurd e
 
-opening_status : {status : ℕ} (o : Outcome) → EndsOpening o → HasStatus (outcome_status o) status → (status ≡ 3) ⊎ ((status ≡ 4) ⊎ (status ≡ 7))
+opening_status : {status : ℕ} (o : Outcome) → EndsOpening o → HasStatus (outcome_status o) status →
+    (status ≡ 3) ⊎ ((status ≡ 4) ⊎ (status ≡ 7))
 opening_status (outcomes.NoVolume kind) e (inl is) = inl is
 opening_status (outcomes.Ended (endings.Stopped whys.Device)) e (inl is) = inr (inl is)
 opening_status (outcomes.Ended (endings.Stopped whys.Memory)) e (inl is) = inr (inr is)
@@ -153,7 +161,8 @@ opening_status outcomes.NotBuilt e has = absurd e
 opening_status (outcomes.Ended endings.Ok) e has = absurd e
 opening_status (outcomes.Ended (endings.Stopped whys.Generation)) e has = absurd e
 
-run_status : {status : ℕ} (o : Outcome) → EndsRun o → HasStatus (outcome_status o) status → (status ≡ 0) ⊎ ((status ≡ 6) ⊎ (status ≡ 7))
+run_status : {status : ℕ} (o : Outcome) → EndsRun o → HasStatus (outcome_status o) status → (status ≡ 0) ⊎
+    ((status ≡ 6) ⊎ (status ≡ 7))
 run_status (outcomes.Ended endings.Ok) e (inl is) = inl is
 run_status (outcomes.Ended endings.Ok) e (inr six) = inr (inl six.0)
 run_status (outcomes.Ended (endings.Stopped whys.Memory)) e (inl is) = inr (inr is)
@@ -193,7 +202,8 @@ late Script past m = absurd (omega (arith, past))
 late Opening past m = (let s = opening_status m.0 m.1 m.2 in grind (arith, s))
 late Run past m = (let s = run_status m.0 m.1 m.2 in grind (arith, s))
 
-before_run : {status : ℕ} (stage : Stage) → order_of stage < 3 → ReplayMayEnd stage status → (status ≡ 0) ⊎ (status ≡ 6) → ⊥
+before_run : {status : ℕ} (stage : Stage) → order_of stage < 3 → ReplayMayEnd stage status → (status ≡ 0) ⊎
+    (status ≡ 6) → ⊥
 before_run Words less m e = not_one (words_status m) (elim e [ inl z ↦ inl z | inr s ↦ inr (inr (inr s)) ])
 before_run Script less m e = apart (script_status m.0 m.1 m.2) (elim e [ inl z ↦ inl z | inr s ↦ inr (inr (inr s)) ])
 before_run Opening less m e = (let s = opening_status m.0 m.1 m.2 in grind (arith, s, e))
@@ -214,10 +224,12 @@ statuses_tell status = record {
 }
 
 -- a status that tells that a run came to its last stage is none of a run that ended before
-pub not_come : {status : ℕ} (stage : Stage) → order_of stage < 3 → ReplayMayEnd stage status → ReplayCameTo Run status → ⊥
+pub not_come : {status : ℕ} (stage : Stage) → order_of stage < 3 → ReplayMayEnd stage status
+    → ReplayCameTo Run status → ⊥
 not_come stage less m come = let most = come stage m in omega arith
 
 -- a run that came to opening didn't end before
-pub not_before : {status : ℕ} → ReplayMayEnd Opening status ⊎ ReplayMayEnd Run status → ReplayEndedBefore Opening status → ⊥
+pub not_before : {status : ℕ} → ReplayMayEnd Opening status ⊎ ReplayMayEnd Run status
+    → ReplayEndedBefore Opening status → ⊥
 not_before (inl m) before = let less = before Opening m in omega (arith, less)
 not_before (inr m) before = let less = before Run m in omega (arith, less)

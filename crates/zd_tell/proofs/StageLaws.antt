@@ -23,7 +23,8 @@ one_stage s t e = sym (at_its_place s) ∙ ap stage_at e ∙ at_its_place t
 module _ {O : Type 0} (course : Course O) (Decided : O → Type 0) where
   -- a cause decides: where it holds, and the stages up to its own are passed or end the run, a run ends no
   -- later, and with no other outcome that is decided
-  pub cause_decides : (s t : Stage) (o p : O) → ((stage : Stage) → order_of stage ≤ order_of s → DecidesAt course Decided stage)
+  pub cause_decides : (s t : Stage) (o p : O) →
+      ((stage : Stage) → order_of stage ≤ order_of s → DecidesAt course Decided stage)
       → Decided o → EndsIn course s o → EndsIn course t p → (order_of t ≤ order_of s) × (Decided p → (s ≡ t) × (o ≡ p))
   cause_decides s t o p decides d here there = by (cases_order (order_of s) (order_of t))
     where
@@ -44,13 +45,16 @@ module _ {O : Type 0} (course : Course O) (Decided : O → Type 0) where
 
   -- so causes exclude each other
   pub causes_exclude : ((stage : Stage) → DecidesAt course Decided stage) → CausesExclude course Decided
-  causes_exclude decides s t o p d e here there = (cause_decides s t o p (λ stage early. decides stage) d here there).1 e
+  causes_exclude decides s t o p d e here there =
+      (cause_decides s t o p (λ stage early. decides stage) d here there).1 e
 
 -- the status of a run that ended in a stage and told of it may come in that stage, where want of memory may come
 -- in it, or the message is fixed
-pub told_may_end : {O : Type 0} (Comes : Stage → O → Type 0) (own : O → ℕ) (stage : Stage) (o memory : O) (message : Telling) (fixed : Type 0)
+pub told_may_end : {O : Type 0} (Comes : Stage → O → Type 0) (own : O → ℕ) (stage : Stage) (o memory : O)
+    (message : Telling) (fixed : Type 0)
     (status : ℕ) → Comes stage o → message.status ≡ own o → own memory ≡ 7 → ((fixed → ⊥) → Comes stage memory)
-    → (told : Telling) → (told ≡ message) ⊎ ((told ≡ memory_telling) × (fixed → ⊥)) → HasStatus told.status status → MayEnd Comes own stage status
+    → (told : Telling) → (told ≡ message) ⊎ ((told ≡ memory_telling) × (fixed → ⊥))
+    → HasStatus told.status status → MayEnd Comes own stage status
 told_may_end Comes own stage o memory message fixed status comes is seven free told (inl same) has =
     (o, comes, subst (λ (n : ℕ). HasStatus n status) (ap (λ (t : Telling). t.status) same ∙ is) has)
 told_may_end Comes own stage o memory message fixed status comes is seven free told (inr none) has =

@@ -8,14 +8,17 @@ use Rattle.zd_admin.proofs.RunLaws.{device_of, ends_well, no_usage_status, repor
 use Rattle.zd_admin.proofs.runs.admin.Goals as goal
 
 pub returns-in_default-clause-report : goal.returns-in_default-clause-report
-returns-in_default-clause-report g c = reports_usage (map string_bytes c.args.words.now) _ c.in_default.ensures.none c.tell.ensures
+returns-in_default-clause-report g c =
+    reports_usage (map string_bytes c.args.words.now) _ c.in_default.ensures.none c.tell.ensures
 
 pub returns-in_default-clause-usage : goal.returns-in_default-clause-usage
-returns-in_default-clause-usage g c = (λ one. c.in_default.ensures.none, λ wrong. usage_status (fixed_told c.tell.ensures tt))
+returns-in_default-clause-usage g c =
+    (λ one. c.in_default.ensures.none, λ wrong. usage_status (fixed_told c.tell.ensures tt))
 
 pub returns-clause-usage : goal.returns-clause-usage
 returns-clause-usage g c =
-    let right : IsAdminCommand (map string_bytes c.args.words.now) = (c.in-Some.asked.reserved, c.in-Some.asked.volume, c.in-Some.ensures.some) in
+    let right : IsAdminCommand (map string_bytes c.args.words.now) =
+        (c.in-Some.asked.reserved, c.in-Some.asked.volume, c.in-Some.ensures.some) in
     (λ one. absurd (no_usage_status c.in-Some.asked.reserved _ c.run-outcome.result c.run-outcome.ensures.ended (status_told c.tell-status.ensures) one), λ wrong. absurd (wrong right))
 
 pub returns-clause-report : goal.returns-clause-report
@@ -29,7 +32,8 @@ returns-clause-ok g c done =
     (c.run-outcome.ensures.ok (done_told c.tell-status.ensures done))
 
 pub returns-clause-device : goal.returns-clause-device
-returns-clause-device g c four = c.run-outcome.ensures.cause (device_of c.run-outcome.result (status_told c.tell-status.ensures) four)
+returns-clause-device g c four =
+    c.run-outcome.ensures.cause (device_of c.run-outcome.result (status_told c.tell-status.ensures) four)
 
 pub returns-clause-unfit : goal.returns-clause-unfit
 returns-clause-unfit g c ten =
