@@ -6,11 +6,10 @@ use crate::lines::{differs, ending_status, same_lines, same_number};
 use crate::places::{copy, copy_at, end_of_zone, first_other_zone, hold};
 use crate::runs::Told;
 use crate::sets::expect_equal;
-use crate::step::{Ask, Count, Sectors};
+use crate::steps::{Ask, Count, Sectors};
 use crate::stops::{from_start, opening_calls};
 use std::alloc::Global;
 use zd_base::ZoneNo;
-use zd_disk::ZonedDisk;
 use zd_memdisk::MemDisk;
 
 fn expect_status(alloc: Global, told: &Told, status: u8) -> Result<(), Broken> {
@@ -27,14 +26,7 @@ fn expect_reads(alloc: Global, disk: &MemDisk, told: &Told, count: Count) -> Res
 }
 
 fn expect_pointer(alloc: Global, disk: &MemDisk, zone: ZoneNo, pointer: u32) -> Result<(), Broken> {
-    let mut disk = copy(alloc, disk)?;
-    let Ok(geometry) = disk.geometry() else {
-        return Err(Broken::Device);
-    };
-    if zone.0 >= geometry.zones() || zone.0 < geometry.conv() {
-        return Err(Broken::Place);
-    }
-    let got = end_of_zone(&mut disk, &geometry, zone.0)?;
+    let got = end_of_zone(&mut copy(alloc, disk)?, zone.0)?;
     same_number(alloc, "pointer", u64::from(pointer), u64::from(got))
 }
 
@@ -59,14 +51,14 @@ fn expect_same(alloc: Global, disk: &MemDisk, mut other: MemDisk) -> Result<(), 
 }
 
 /// Asks for something of the disk and of the last run.
-pub fn ask(
+pub fn expect(
     alloc: Global,
     disk: &MemDisk,
     told: &Told,
     kept: &[Kept],
-    ask: &Ask,
+    asked: &Ask,
 ) -> Result<(), Broken> {
-    match ask {
+    match asked {
         Ask::Prints(text) => {
             same_lines(alloc, text.as_str(), &told.output)?;
             expect_status(alloc, told, ending_status(text.as_str()))

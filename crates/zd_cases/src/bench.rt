@@ -1,12 +1,12 @@
 //! The bench on which cases are run.
 
-use crate::asks::{ask, kept_copy};
-use crate::builds::build;
+use crate::asks::{expect, kept_copy};
+use crate::builds::change;
 use crate::fault::Broken;
-use crate::parse::{Case, parse};
 use crate::places::copy;
+use crate::reading::{Case, Line, parse};
 use crate::runs::{Orders, Told, administer, replay};
-use crate::step::{Step, Stop};
+use crate::steps::{Step, Stop};
 use crate::stops::stopped;
 use std::alloc::{AllocError, Global};
 use std::mem;
@@ -58,6 +58,7 @@ impl Tally {
 }
 
 /// The line of a case that failed, and why.
+#[derive(Drop)]
 struct Failure {
     number: u32,
     broken: Broken,
@@ -100,10 +101,13 @@ impl Bench {
                 return tally.add_failure(told.as_str());
             }
         };
-        for case in &cases {
+        for case in cases {
             tally.cases = tally.cases.saturating_add(1);
-            if let Err(Failure { number, broken }) = self.run_case(alloc, case) {
-                let of_case = &case.name;
+            let Case {
+                name: of_case,
+                lines,
+            } = case;
+            if let Err(Failure { number, broken }) = self.run_case(alloc, lines) {
                 let told = format!(in alloc; "{name} line {number}, {of_case}: {broken}")?;
                 tally.add_failure(told.as_str())?;
             }
@@ -111,7 +115,7 @@ impl Bench {
         Ok(())
     }
 
-    fn run_case(&mut self, alloc: Global, case: &Case) -> Result<(), Failure> {
+    fn run_case(&mut self, alloc: Global, lines: Vec<Line>) -> Result<(), Failure> {
         self.orders = Orders::none(alloc);
         self.told = Told::nothing(alloc);
         self.aside = None;
@@ -119,25 +123,22 @@ impl Bench {
             Ok(disk) => disk,
             Err(broken) => return Err(Failure { number: 0, broken }),
         };
-        for line in &case.lines {
-            disk = match self.step(alloc, disk, &line.step) {
+        for Line { number, step } in lines {
+            disk = match self.take_step(alloc, disk, step) {
                 Ok(disk) => disk,
-                Err(broken) => {
-                    let number = line.number;
-                    return Err(Failure { number, broken });
-                }
+                Err(broken) => return Err(Failure { number, broken }),
             };
         }
         Ok(())
     }
 
-    fn step(&mut self, alloc: Global, disk: MemDisk, step: &Step) -> Result<MemDisk, Broken> {
+    fn take_step(&mut self, alloc: Global, disk: MemDisk, step: Step) -> Result<MemDisk, Broken> {
         match step {
             Step::On(name) => kept_copy(alloc, &self.kept, name.as_str()),
-            Step::Keep(name) => self.keep(alloc, disk, name.as_str()),
-            Step::Build(change) => build(alloc, disk, change),
+            Step::Keep(name) => self.keep_copy(alloc, disk, name.as_str()),
+            Step::Build(wanted) => change(alloc, disk, &wanted),
             Step::Order(order) => {
-                self.orders.add(alloc, order)?;
+                self.orders.add(order)?;
                 Ok(disk)
             }
             Step::Run(script) => {
@@ -145,14 +146,14 @@ impl Bench {
                 Ok(self.took(ran))
             }
             Step::Admin(words) => {
-                let ran = administer(alloc, disk, &mut self.orders, words)?;
+                let ran = administer(alloc, disk, &mut self.orders, &words)?;
                 Ok(self.took(ran))
             }
             Step::Ask(asked) => {
-                ask(alloc, &disk, &self.told, &self.kept, asked)?;
+                expect(alloc, &disk, &self.told, &self.kept, &asked)?;
                 Ok(disk)
             }
-            Step::Stop(stop) => self.stop(alloc, disk, stop),
+            Step::Stop(stop) => self.take_stop(alloc, disk, &stop),
             Step::Back => self.back(),
         }
     }
@@ -162,7 +163,7 @@ impl Bench {
         disk
     }
 
-    fn keep(&mut self, alloc: Global, disk: MemDisk, name: &str) -> Result<MemDisk, Broken> {
+    fn keep_copy(&mut self, alloc: Global, disk: MemDisk, name: &str) -> Result<MemDisk, Broken> {
         self.kept.retain(|image| image.name.as_str() != name);
         self.kept.push(Kept {
             name: String::from_str(alloc, name)?,
@@ -171,7 +172,7 @@ impl Bench {
         Ok(disk)
     }
 
-    fn stop(&mut self, alloc: Global, disk: MemDisk, stop: &Stop) -> Result<MemDisk, Broken> {
+    fn take_stop(&mut self, alloc: Global, disk: MemDisk, stop: &Stop) -> Result<MemDisk, Broken> {
         let image = stopped(alloc, &disk, &self.told, stop)?;
         let told = mem::replace(&mut self.told, Told::nothing(alloc));
         self.aside = Some(Aside { disk, told });

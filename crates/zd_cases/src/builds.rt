@@ -3,7 +3,7 @@
 use crate::fault::Broken;
 use crate::places::{change_bytes, put};
 use crate::sets::{change_bits, change_entry, change_field};
-use crate::step::Build;
+use crate::steps::Build;
 use std::alloc::Global;
 use uuid::Uuid;
 use zd_disk::ZonedDisk;
@@ -27,8 +27,8 @@ fn make_durable(disk: &mut MemDisk) -> Result<(), Broken> {
 }
 
 /// Changes what a disk holds.
-pub fn build(alloc: Global, mut disk: MemDisk, build: &Build) -> Result<MemDisk, Broken> {
-    match build {
+pub fn change(alloc: Global, mut disk: MemDisk, wanted: &Build) -> Result<MemDisk, Broken> {
+    match wanted {
         Build::Blank(geometry) => {
             return MemDisk::blank(alloc, *geometry).ok().ok_or(Broken::Memory);
         }
@@ -45,7 +45,11 @@ pub fn build(alloc: Global, mut disk: MemDisk, build: &Build) -> Result<MemDisk,
             offset,
             bytes,
         } => change_field(alloc, &mut disk, *zone, *offset, bytes)?,
-        Build::Entry { chunk, entry } => change_entry(alloc, &mut disk, *chunk, *entry)?,
+        Build::Entry {
+            chunk,
+            zone,
+            buffer,
+        } => change_entry(alloc, &mut disk, *chunk, *zone, *buffer)?,
         Build::Bits { zone, bytes } => change_bits(alloc, &mut disk, *zone, bytes)?,
         Build::Flush => make_durable(&mut disk)?,
     }

@@ -1,9 +1,9 @@
 //! Sectors of a disk in memory, written and read wherever they are.
 
 use crate::fault::Broken;
-use crate::step::{Filling, Sectors};
+use crate::steps::{Filling, Sectors};
 use std::alloc::{AllocError, Global};
-use zd_base::{BLOCK, Geometry, SECTOR, ZoneNo};
+use zd_base::{BLOCK, SECTOR, ZoneNo};
 use zd_disk::ZonedDisk;
 use zd_memdisk::{Choices, MemDisk};
 use zd_plain::pattern;
@@ -42,12 +42,47 @@ pub fn write_sectors(
         .ok_or(Broken::Device)
 }
 
-/// The pointer of a zone, in sectors; a conventional zone can be read to its end.
-pub fn end_of_zone(disk: &mut MemDisk, geometry: &Geometry, zone: u32) -> Result<u32, Broken> {
+/// The pointer of a zone, in sectors; a conventional zone ends with its size.
+pub fn end_of_zone(disk: &mut MemDisk, zone: u32) -> Result<u32, Broken> {
+    let Ok(geometry) = disk.geometry() else {
+        return Err(Broken::Device);
+    };
     if zone < geometry.conv() {
         return Ok(8 * geometry.zone_blocks());
     }
+    if zone >= geometry.zones() {
+        return Err(Broken::Place);
+    }
     disk.report(ZoneNo(zone)).ok().ok_or(Broken::Device)
+}
+
+/// Reads sectors by one call.
+fn read_into(disk: &mut MemDisk, zone: u32, start: u32, into: &mut [u8]) -> Result<(), Broken> {
+    let Ok(geometry) = disk.geometry() else {
+        return Err(Broken::Device);
+    };
+    let zone_sectors = 8 * geometry.zone_blocks() as usize;
+    if into.is_empty() || into.len() % SECTOR != 0 || zone >= geometry.zones() {
+        return Err(Broken::Place);
+    }
+    if into.len() / SECTOR > zone_sectors || start as usize > zone_sectors - into.len() / SECTOR {
+        return Err(Broken::Place);
+    }
+    if zone < geometry.conv() {
+        return disk
+            .read(ZoneNo(zone), start, into)
+            .ok()
+            .ok_or(Broken::Device);
+    }
+    let Ok(pointer) = disk.report(ZoneNo(zone)) else {
+        return Err(Broken::Device);
+    };
+    if start as usize + into.len() / SECTOR > pointer as usize {
+        return Err(Broken::Place);
+    }
+    disk.read(ZoneNo(zone), start, into)
+        .ok()
+        .ok_or(Broken::Device)
 }
 
 /// So many sectors, read by one call.
@@ -58,21 +93,9 @@ pub fn read_sectors(
     start: u32,
     count: u32,
 ) -> Result<Vec<u8>, Broken> {
-    let Ok(geometry) = disk.geometry() else {
-        return Err(Broken::Device);
-    };
-    if count == 0 || zone >= geometry.zones() {
-        return Err(Broken::Place);
-    }
-    let end = end_of_zone(disk, &geometry, zone)?;
-    if count > end || start > end - count {
-        return Err(Broken::Place);
-    }
     let mut bytes = vec![in alloc; 0; SECTOR * count as usize]?;
-    match disk.read(ZoneNo(zone), start, &mut bytes) {
-        Ok(()) => Ok(bytes),
-        Err(_) => Err(Broken::Device),
-    }
+    read_into(disk, zone, start, &mut bytes)?;
+    Ok(bytes)
 }
 
 /// The bytes of so many sectors.
@@ -146,11 +169,10 @@ fn is_same_zone(
     alloc: Global,
     disk: &mut MemDisk,
     other: &mut MemDisk,
-    geometry: &Geometry,
     zone: u32,
 ) -> Result<bool, Broken> {
-    let end = end_of_zone(disk, geometry, zone)?;
-    if end != end_of_zone(other, geometry, zone)? {
+    let end = end_of_zone(disk, zone)?;
+    if end != end_of_zone(other, zone)? {
         return Ok(false);
     }
     if end == 0 {
@@ -173,7 +195,7 @@ pub fn first_other_zone(
         return Err(Broken::Place);
     }
     for zone in 0..geometry.zones() {
-        if !is_same_zone(alloc, disk, other, &geometry, zone)? {
+        if !is_same_zone(alloc, disk, other, zone)? {
             return Ok(Some(zone));
         }
     }

@@ -2,7 +2,7 @@
 
 use crate::fault::Broken;
 use crate::lines::with_line_feeds;
-use crate::step::Order;
+use crate::steps::Order;
 use std::alloc::{AllocError, Global};
 use std::mem;
 use zd_admin::admin;
@@ -34,24 +34,16 @@ impl Orders {
     }
 
     /// Takes in one more.
-    pub fn add(&mut self, alloc: Global, order: &Order) -> Result<(), AllocError> {
+    pub fn add(&mut self, order: Order) -> Result<(), AllocError> {
         match order {
-            Order::FailCall(fail) => self.fails.push(*fail)?,
-            Order::FailSource(nth) => self.source_fails.push(*nth)?,
-            Order::FailSink(nth) => self.sink_fails.push(*nth)?,
-            Order::Gives(most) => self.most = *most,
-            Order::Words(words) => self.words = Some(copied(alloc, words)?),
+            Order::FailCall(fail) => self.fails.push(fail)?,
+            Order::FailSource(nth) => self.source_fails.push(nth)?,
+            Order::FailSink(nth) => self.sink_fails.push(nth)?,
+            Order::Gives(most) => self.most = most,
+            Order::Words(words) => self.words = Some(words),
         }
         Ok(())
     }
-}
-
-fn copied(alloc: Global, words: &[String]) -> Result<Vec<String>, AllocError> {
-    let mut copies = Vec::new(alloc);
-    for word in words {
-        copies.push(String::from_str(alloc, word.as_str())?)?;
-    }
-    Ok(copies)
 }
 
 /// What a run told: its output and status, how many writing calls the disk had had before, and how many

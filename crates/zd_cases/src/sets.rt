@@ -6,7 +6,6 @@ use crate::places::{change_bytes, read_sectors, write_sectors};
 use std::alloc::Global;
 use zd_base::{BLOCK, Geometry};
 use zd_disk::ZonedDisk;
-use zd_map::{MapEntry, set};
 use zd_memdisk::MemDisk;
 use zd_model::Super;
 use zd_super::{crc32_le, decode};
@@ -82,12 +81,14 @@ pub fn change_entry(
     alloc: Global,
     disk: &mut MemDisk,
     chunk: u32,
-    entry: MapEntry,
+    zone: u32,
+    buffer: u32,
 ) -> Result<(), Broken> {
-    let mut block = [0; BLOCK];
-    set(&mut block, 0, entry);
+    let mut entry = [0; 8];
+    entry[..4].copy_from_slice(&zone.to_le_bytes());
+    entry[4..].copy_from_slice(&buffer.to_le_bytes());
     let offset = 8 * (chunk as usize % 512);
-    change_both(alloc, disk, 1 + u64::from(chunk / 512), offset, &block[..8])
+    change_both(alloc, disk, 1 + u64::from(chunk / 512), offset, &entry)
 }
 
 /// Changes the first bytes of the bitmap of a zone in both sets.

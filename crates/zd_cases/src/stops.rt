@@ -3,7 +3,7 @@
 use crate::fault::Broken;
 use crate::places::copy_at;
 use crate::runs::Told;
-use crate::step::{Count, Stop};
+use crate::steps::{Count, Stop};
 use std::alloc::Global;
 use zd_memdisk::MemDisk;
 use zd_open::open;

@@ -1,11 +1,10 @@
 //! The words of a line.
 
 use crate::fault::Unread;
-use crate::step::{Count, Filling, Sectors};
+use crate::steps::{Count, Filling, Sectors};
 use std::alloc::Global;
 use uuid::Uuid;
 use zd_base::{Geometry, ZoneNo};
-use zd_map::MapEntry;
 use zd_memdisk::{Choices, DeviceCall, Fail};
 
 /// A number of 64 bits.
@@ -39,29 +38,21 @@ pub fn identifier(word: &str) -> Result<Uuid, Unread> {
 }
 
 /// Three numbers as the geometry of a disk.
-pub fn geometry(blocks: &str, conv: &str, seq: &str) -> Result<Geometry, Unread> {
+pub fn geometry_of(blocks: &str, conv: &str, seq: &str) -> Result<Geometry, Unread> {
     let (blocks, conv, seq) = (short(blocks)?, short(conv)?, short(seq)?);
     Geometry::new(blocks, conv, seq).ok().ok_or(Unread::Number)
 }
 
-/// A zone's number; `none` and the number that stands for none in a map are none.
-fn zone_or_none(word: &str) -> Result<Option<ZoneNo>, Unread> {
+/// A zone's number as it stands in a map; `none` is the number that stands for none.
+pub fn zone_or_none(word: &str) -> Result<u32, Unread> {
     if word == "none" {
-        return Ok(None);
+        return Ok(u32::MAX);
     }
-    Ok(Some(ZoneNo(short(word)?)))
-}
-
-/// A zone and a buffer, or none of them.
-pub fn entry(zone: &str, buffer: &str) -> Result<MapEntry, Unread> {
-    Ok(MapEntry {
-        zone: zone_or_none(zone)?,
-        buffer: zone_or_none(buffer)?,
-    })
+    short(word)
 }
 
 /// A number of calls, counted from the end of opening behind a `+`.
-pub fn count(word: &str) -> Result<Count, Unread> {
+pub fn call_count(word: &str) -> Result<Count, Unread> {
     match word.strip_prefix('+') {
         Some(number) => Ok(Count {
             opened: true,
@@ -74,7 +65,7 @@ pub fn count(word: &str) -> Result<Count, Unread> {
     }
 }
 
-fn filling(words: &[&str]) -> Result<Filling, Unread> {
+fn filling_words(words: &[&str]) -> Result<Filling, Unread> {
     match words {
         ["zeros"] => Ok(Filling::Full(0)),
         ["full", value] => Ok(Filling::Full(byte(value)?)),
@@ -87,13 +78,13 @@ fn filling(words: &[&str]) -> Result<Filling, Unread> {
 }
 
 /// A zone, a sector, a number of sectors, and what stands in them.
-pub fn sectors(words: &[&str]) -> Result<Sectors, Unread> {
+pub fn sector_words(words: &[&str]) -> Result<Sectors, Unread> {
     match words {
         [zone, start, count, what @ ..] => Ok(Sectors {
             zone: short(zone)?,
             start: short(start)?,
             count: short(count)?,
-            filling: filling(what)?,
+            filling: filling_words(what)?,
         }),
         _ => Err(Unread::Form),
     }
@@ -132,7 +123,7 @@ fn newest(word: &str) -> Result<bool, Unread> {
 
 /// What a stop leaves: `newest` or `flushed`, and any number of `conv ZONE SECTOR VALUE` and
 /// `seq ZONE EVENTS`.
-pub fn choices(alloc: Global, first: &str, words: &[&str]) -> Result<Choices, Unread> {
+pub fn choice_words(alloc: Global, first: &str, words: &[&str]) -> Result<Choices, Unread> {
     let newest = newest(first)?;
     let mut conv = Vec::new(alloc);
     let mut seq = Vec::new(alloc);

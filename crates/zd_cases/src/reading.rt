@@ -1,10 +1,10 @@
 //! Cases read from their text.
 
 use crate::fault::{ReadFault, Unread};
-use crate::step::{Ask, Build, Count, Order, Step, Stop};
+use crate::steps::{Ask, Build, Count, Order, Step, Stop};
 use crate::words::{
-    byte, choices, count, entry, failing, geometry, hexadecimal, identifier, long, sectors, short,
-    size,
+    byte, call_count, choice_words, failing, geometry_of, hexadecimal, identifier, long,
+    sector_words, short, size, zone_or_none,
 };
 use std::alloc::{AllocError, Global};
 use zd_base::ZoneNo;
@@ -29,12 +29,12 @@ pub struct Case {
 
 fn read_build(alloc: Global, word: &str, fields: &[&str]) -> Result<Option<Build>, Unread> {
     let build = match (word, fields) {
-        ("disk", [blocks, conv, seq]) => Build::Blank(geometry(blocks, conv, seq)?),
+        ("disk", [blocks, conv, seq]) => Build::Blank(geometry_of(blocks, conv, seq)?),
         ("format", [reserved, volume]) => Build::Format {
             reserved: short(reserved)?,
             volume: identifier(volume)?,
         },
-        ("put", fields) => Build::Put(sectors(fields)?),
+        ("put", fields) => Build::Put(sector_words(fields)?),
         ("bytes", [zone, block, offset, bytes]) => Build::Bytes {
             zone: short(zone)?,
             block: short(block)?,
@@ -48,7 +48,8 @@ fn read_build(alloc: Global, word: &str, fields: &[&str]) -> Result<Option<Build
         },
         ("entry", [chunk, zone, buffer]) => Build::Entry {
             chunk: short(chunk)?,
-            entry: entry(zone, buffer)?,
+            zone: zone_or_none(zone)?,
+            buffer: zone_or_none(buffer)?,
         },
         ("bits", [zone, bytes]) => Build::Bits {
             zone: short(zone)?,
@@ -84,10 +85,10 @@ fn read_ask(alloc: Global, word: &str, rest: &str, fields: &[&str]) -> Result<Op
     let ask = match (word, fields) {
         ("prints", _) => Ask::Prints(String::from_str(alloc, rest)?),
         ("silent", [status]) => Ask::Silent(byte(status)?),
-        ("calls", [number]) => Ask::Calls(count(number)?),
-        ("reads", [number]) => Ask::Reads(count(number)?),
+        ("calls", [number]) => Ask::Calls(call_count(number)?),
+        ("reads", [number]) => Ask::Reads(call_count(number)?),
         ("pointer", [zone, pointer]) => Ask::Pointer(ZoneNo(short(zone)?), short(pointer)?),
-        ("holds", fields) => Ask::Holds(sectors(fields)?),
+        ("holds", fields) => Ask::Holds(sector_words(fields)?),
         ("equal", [generation]) => Ask::Equal(long(generation)?),
         ("same", _) => Ask::Same(String::from_str(alloc, rest)?),
         ("unchanged", []) => Ask::Unchanged,
@@ -103,8 +104,8 @@ fn read_other(alloc: Global, word: &str, rest: &str, fields: &[&str]) -> Result<
         ("run", _) => Ok(Step::Run(String::from_str(alloc, rest)?)),
         ("admin", words) => Ok(Step::Admin(owned_words(alloc, words)?)),
         ("stop", [at, first, items @ ..]) => Ok(Step::Stop(Stop {
-            at: count(at)?,
-            choices: choices(alloc, first, items)?,
+            at: call_count(at)?,
+            choices: choice_words(alloc, first, items)?,
         })),
         ("back", []) => Ok(Step::Back),
         _ => Err(Unread::Form),

@@ -2,7 +2,6 @@
 
 use uuid::Uuid;
 use zd_base::{Geometry, ZoneNo};
-use zd_map::MapEntry;
 use zd_memdisk::{Choices, Fail};
 
 /// What stands in sectors.
@@ -88,8 +87,10 @@ pub enum Build {
     Entry {
         /// The chunk.
         chunk: u32,
-        /// Its entry.
-        entry: MapEntry,
+        /// Its zone, as it stands in a map.
+        zone: u32,
+        /// Its buffer.
+        buffer: u32,
     },
     /// The first bytes of the bitmap of a zone, in both sets of metadata.
     Bits {
