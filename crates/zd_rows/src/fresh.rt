@@ -9,7 +9,6 @@ use zd_base::{Geometry, Kind, Layout, SECTOR, ZoneNo};
 use zd_disk::{Failed, ZonedDisk};
 use zd_memdisk::MemDisk;
 use zd_plain::pattern;
-use zd_sets::read_block;
 use zd_super::crc32_le;
 
 /// No zone, in an entry of a map.
@@ -74,13 +73,6 @@ pub fn bitmap_of(first: u8) -> [u8; 4096] {
     block
 }
 
-/// A bitmap block of a zone of which one of the first eight blocks is valid.
-pub fn bitmap_block(valid: u8) -> [u8; 4096]
-    requires { valid < 8 }
-{
-    bitmap_of(1 << valid)
-}
-
 /// Block `i` of a set of a volume that nobody wrote.
 pub fn set_block(layout: &Layout, own: u64, i: u32) -> [u8; 4096] {
     if i == 0 {
@@ -107,21 +99,6 @@ pub fn put<D: ZonedDisk>(
         assert!(rt; disk.report(ZoneNo(zone))? == 8 * block);
     }
     disk.write(ZoneNo(zone), 8 * block, bytes)
-}
-
-/// A block of a conventional zone as the disk reads.
-pub fn get<D: ZonedDisk>(
-    rt: &impl Abort,
-    disk: &mut D,
-    zone: u32,
-    block: u32,
-) -> Result<[u8; 4096], Failed> {
-    let geometry = disk.geometry()?;
-    assert!(rt; zone < geometry.conv());
-    assert!(rt; block < geometry.zone_blocks());
-    let mut bytes = [0; 4096];
-    read_block(disk, &geometry, ZoneNo(zone), block, &mut bytes)?;
-    Ok(bytes)
 }
 
 /// Makes all that was written outlast a stop.
@@ -176,41 +153,4 @@ pub fn patterned(seed: u32, block: u32) -> [u8; 4096] {
         );
     }
     bytes
-}
-
-/// A block of data of chunk 0: the zone that has it, its number in the chunk and so in the zone, and
-/// the seed of its pattern.
-#[derive(Clone, Copy)]
-pub struct Data {
-    pub zone: u32,
-    pub block: u32,
-    pub seed: u32,
-}
-
-/// Makes a block of chunk 0 valid in its zone, and writes its data.
-fn put_data(rt: &impl Abort, disk: &mut MemDisk, data: Data) -> Result<(), Failed> {
-    assert!(rt; data.zone < 12 && data.block < 8);
-    let bits = bitmap_block(data.block as u8);
-    put(rt, disk, 0, 2 + data.zone, &bits)?;
-    put(rt, disk, 1, 2 + data.zone, &bits)?;
-    let bytes = patterned(data.seed, data.block);
-    put(rt, disk, data.zone, data.block, &bytes)
-}
-
-/// The volume of the rows whose chunk 0 has a zone and a buffer, with some blocks of data.
-pub fn with_chunk(
-    rt: &(impl Abort + AllocGlobal),
-    zone: u32,
-    buffer: u32,
-    data: &[Data],
-) -> Result<MemDisk, Fail> {
-    let mut disk = fresh(rt)?;
-    let map = map_block(0, zone, buffer);
-    put(rt, &mut disk, 0, 1, &map)?;
-    put(rt, &mut disk, 1, 1, &map)?;
-    for item in data {
-        put_data(rt, &mut disk, *item)?;
-    }
-    flush(&mut disk)?;
-    Ok(disk)
 }

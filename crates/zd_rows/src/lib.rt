@@ -6,10 +6,6 @@
 #![tactic(auto)]
 
 #[cfg(test)]
-mod compare;
-#[cfg(test)]
-mod data;
-#[cfg(test)]
 mod equal_sets;
 #[cfg(test)]
 mod failures;
@@ -19,10 +15,6 @@ mod formatting;
 mod fresh;
 #[cfg(test)]
 mod image_file;
-#[cfg(test)]
-mod large;
-#[cfg(test)]
-mod opened;
 #[cfg(test)]
 mod opening;
 #[cfg(test)]
@@ -34,10 +26,4 @@ mod refusals;
 #[cfg(test)]
 mod run;
 #[cfg(test)]
-mod sectors;
-#[cfg(test)]
-mod sets;
-#[cfg(test)]
-mod two_zones;
-#[cfg(test)]
-mod versions;
+mod wide;

@@ -1,7 +1,7 @@
 //! Reads of a volume that nobody wrote.
 
 use crate::fresh::fresh;
-use crate::run::{expect_calls, run, sink, source};
+use crate::run::{run, sink, source};
 use std::process::Abort;
 use std::test::Fail;
 use zd_base::Status;
@@ -27,17 +27,6 @@ pub const SIX_REPORTED: &str = "0 1 0 r 0 1 data z8 @0;\
     0 5 1 r 16 2 data z16 @0;\
     0 6 0 r 18446744073709551615 1 range @0;\
     end 0 ok;";
-
-/// The disk that one run hands back serves the next. Each opening makes four writing calls: flushes as it
-/// begins, behind the blocks that differ and behind the second super block, and the write of that.
-#[test]
-fn a_fresh_volume_reads_as_zeros(rt: HostRuntime) -> Result<(), Fail> {
-    let output = "0 1 0 r 0 1 data z8 @0;end 0 ok;";
-    let disk = expect_calls(&rt, fresh(&rt)?, "r 0 0 1;", output, 4)?;
-    let disk = expect_calls(&rt, disk, "", "end 0 ok;", 4)?;
-    expect_calls(&rt, disk, SIX_READS, SIX_REPORTED, 4)?;
-    Ok(())
-}
 
 /// Runs a script of 256 reads of the whole device, and some more lines.
 fn run_long(rt: &(impl Abort + AllocGlobal), more: &str) -> Result<(Status, MemSink), Fail> {
