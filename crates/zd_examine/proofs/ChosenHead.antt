@@ -4,7 +4,7 @@ use Rattle.std.specs.Prelude.{Result, Ok, Err}
 use borrow.Author.Tests.{eqb-true}
 use Rattle.zd_model.specs.Image.{Image, block_at}
 use Rattle.zd_model.specs.Super.{decoded, with_own}
-use Rattle.zd_model.specs.Volume.{Chosen, chosen, good_super, if_own}
+use Rattle.zd_model.specs.Volume.{chosen, good_super, if_own}
 use Rattle.zd_model.specs.declared.metadata.NotSuper.{NotSuper}
 use Rattle.zd_model.specs.declared.metadata.Super.{Super}
 use Rattle.zd_sets.specs.Choice.{IsPlacedChoice, chosen_of}

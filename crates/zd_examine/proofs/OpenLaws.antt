@@ -1,23 +1,18 @@
 -- What was read is what the disk holds.
-use Rattle.std.proofs.Common.{◌≡◌, ℕ, zero, suc, ◌+◌, ◌-◌, ◌*◌, ◌/◌, ◌%◌, ◌<◌, ◌≤◌, Bool, true, List, [], ◌∷◌, ◌++◌, map, take, drop, Option, Some, refl, sym, ap, ap₂, ◌∙◌, subst, inl, inr, arith, cond}
-use Rattle.std.proofs.Math.Seq.{take-add}
-use Rattle.std.proofs.lemmas.List.{drop-drop}
-use Rattle.std.proofs.lemmas.Nat.{mul-add-lt}
+use Rattle.std.proofs.Common.{◌≡◌, ℕ, zero, suc, ◌+◌, ◌<◌, ◌≤◌, Bool, true, List, [], ◌∷◌, ◌++◌, map, Option, Some, refl, sym, ap, ap₂, ◌∙◌, subst, inl, inr, arith, cond}
 use Rattle.std.proofs.lemmas.Bool.{cases_lt}
 use borrow.Author.Tests.{lt-ltb}
 use Rattle.std.specs.Prelude.{find, slice_index}
-use Rattle.std.specs.List.{flat_map, range_with_len, concat}
-use Rattle.zd_base.specs.Geometry.{Shape, zone_count, per, is_conventional}
+use Rattle.std.specs.List.{flat_map, range_with_len}
+use Rattle.zd_base.specs.Geometry.{Shape, zone_count, is_conventional}
 use Rattle.zd_base.specs.Layout.{Fits, used_blocks}
 use Rattle.zd_model.specs.Faults.{bad_bit, bad_chunk}
 use Rattle.zd_model.specs.Image.{Image}
-use Rattle.zd_model.specs.Tables.{Tables, entry_at}
-use Rattle.zd_model.specs.Volume.{Chosen, bitmap_block, bits_in, entry_in, tables_of}
-use Rattle.zd_model.specs.declared.metadata.MapEntry.{MapEntry}
-use Rattle.zd_model.proofs.SameLaws.{same_map}
+use Rattle.zd_model.specs.Tables.{Tables}
+use Rattle.zd_model.specs.Volume.{Chosen, tables_of}
 use Rattle.zd_model.proofs.FaultLaws.{map_follows}
 use Rattle.zd_model.proofs.BitLaws.{bits_follow}
-use Rattle.zd_sets.specs.Blocks.{blocks_of, AreBlocks}
+use Rattle.zd_sets.specs.Blocks.{AreBlocks}
 use Rattle.zd_sets.specs.Choice.{IsChoice, chosen_of}
 use Rattle.zd_sets.specs.declared.choice.Chosen.{Chosen as Choice}
 use Rattle.zd_examine.proofs.Pairs.{is_bad_pair, pairs_of}

@@ -1,7 +1,7 @@
 -- What opening makes of a disk: the same volume, whose tables serve its content.
 use Rattle.std.proofs.Common.{◌≡◌, ℕ, ◌+◌, ◌*◌, ◌<◌, List, [], Some, IsNone, Option, sym, ap, ap₂, ◌∙◌, subst, inl, inr, arith}
 use Rattle.std.proofs.lemmas.Bool.{cases_lt}
-use Rattle.zd_base.specs.Geometry.{Shape, IsShape, zone_count}
+use Rattle.zd_base.specs.Geometry.{Shape, IsShape}
 use Rattle.zd_base.specs.Layout.{Fits, set_zones, used_blocks}
 use Rattle.zd_model.specs.Faults.{bad_bit, bad_chunk}
 use Rattle.zd_model.specs.Image.{Image, IsImage, Same, block_at}
@@ -18,7 +18,7 @@ use Rattle.zd_sets.specs.Kept.{KeepsVolume}
 use Rattle.zd_sets.specs.declared.choice.Chosen.{Chosen as Choice}
 use Rattle.zd_sets.proofs.VolumeLaws.{served_same}
 use Rattle.zd_examine.specs.Examined.{ExplainsRefusal, IsExamined, IsPlacedSet}
-use Rattle.zd_examine.specs.Opened.{IsOpened, IsSameVolume}
+use Rattle.zd_examine.specs.Opened.{IsSameVolume}
 use Rattle.zd_tables.specs.Tables.{tables_in}
 use Rattle.zd_examine.specs.declared.examining.OpenFault.{OpenFault}
 use Rattle.zd_examine.specs.declared.examining.OpenFault.TheVariants.{NoSuperBlock, Layout as BadLayout, BadMap, BadBits, Device, Memory}

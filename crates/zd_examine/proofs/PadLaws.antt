@@ -1,11 +1,11 @@
 -- A block that a pointer cuts, made whole by zeros, whole or in part.
-use Rattle.std.proofs.Common.{◌≡◌, ◌≢◌, ◌⊎◌, ℕ, ◌+◌, ◌-◌, ◌*◌, ◌/◌, ◌%◌, ◌<◌, ◌≤◌, max, Bool, true, false, List, length, replicate, take, refl, sym, ap, ◌∙◌, subst, inl, inr, arith}
+use Rattle.std.proofs.Common.{◌≡◌, ◌≢◌, ℕ, ◌+◌, ◌-◌, ◌*◌, ◌%◌, ◌<◌, ◌≤◌, Bool, true, false, List, replicate, take, refl, sym, ap, ◌∙◌, subst, inl, inr, arith}
 use Rattle.std.proofs.lemmas.Bool.{cases_eq, cases_lt, false≢true}
 use Rattle.std.proofs.lemmas.List.{drop-replicate, length-replicate, take-replicate}
 use Rattle.zd_base.specs.Geometry.{Shape}
 use Rattle.zd_model.specs.Bytes.{zero_sector}
 use Rattle.zd_model.specs.Image.{Image, SameZone}
-use Rattle.zd_model.proofs.EventLaws.{SameZone-refl, SameZone-trans}
+use Rattle.zd_model.proofs.EventLaws.{SameZone-trans}
 use Rattle.zd_disk.specs.Steps.{Wrote, WriteLeaves, WriteStep, ZoneWrote, count_of, piece}
 use Rattle.zd_examine.specs.Padded.{HasPad, HasPartOfPad, HasPartOfPads, IsPadStep, IsPadded, PadsZone, block_end, needs_pad}
 

@@ -1,5 +1,5 @@
 -- Pads, one call after another.
-use Rattle.std.proofs.Common.{◌≡◌, ◌≢◌, ℕ, zero, suc, ◌+◌, ◌-◌, ◌^◌, ◌<◌, ◌≤◌, Bool, true, false, cond, not, ◌&&◌, ◌*◌, ◌%◌, List, Some, get_or, length, ap₂, refl, sym, ap, ◌∙◌, subst, inl, inr, arith}
+use Rattle.std.proofs.Common.{◌≡◌, ◌≢◌, ℕ, ◌+◌, ◌-◌, ◌^◌, ◌<◌, ◌≤◌, Bool, true, false, cond, not, ◌&&◌, ◌%◌, List, Some, get_or, length, ap₂, refl, sym, ap, ◌∙◌, subst, inl, inr, arith}
 use Rattle.std.proofs.lemmas.Bool.{cases_eq, cases_lt, false≢true, le-ltb}
 use borrow.Author.Tests.{eq-eqb, eqb-true, lt-ltb}
 use Rattle.std.proofs.Math.ListN.{get_or-eq_default, set}
@@ -8,7 +8,7 @@ use Rattle.zd_disk.proofs.RunLaws.{count_none, count_then}
 use Rattle.std.specs.Prelude.{◌==◌, Result, Ok, Err, OnErr, count_by, slice_index, slice_index_or}
 use Rattle.std.specs.List.{range_with_len}
 use Rattle.zd_base.specs.Geometry.{Shape, is_conventional, zone_count}
-use Rattle.zd_model.specs.Image.{Image, IsImage, Same, SameZone}
+use Rattle.zd_model.specs.Image.{Image, Same}
 use Rattle.zd_model.proofs.EventLaws.{SameZone-refl, SameZone-trans}
 use Rattle.zd_disk.specs.Growth.{Grows}
 use Rattle.zd_disk.specs.Told.{WhereTold}

@@ -4,10 +4,8 @@ use Rattle.std.proofs.lemmas.Bool.{cases_lt}
 use Rattle.std.specs.Prelude.{count_by, slice_index}
 use Rattle.std.specs.List.{range_with_len}
 use Rattle.zd_base.specs.Geometry.{Shape, IsShape, zone_count}
-use Rattle.zd_base.specs.Layout.{used_blocks}
-use Rattle.zd_model.specs.Image.{Image, IsImage, Same, SameZone}
-use Rattle.zd_model.specs.Tables.{BitsFollowRules, Tables}
-use Rattle.zd_model.specs.Volume.{tables_of}
+use Rattle.zd_model.specs.Image.{Image, IsImage}
+use Rattle.zd_model.specs.Tables.{BitsFollowRules}
 use Rattle.zd_model.proofs.ContentLaws.{tables_of_same}
 use Rattle.zd_model.proofs.EventLaws.{SameZone-trans}
 use Rattle.zd_disk.specs.Told.{WhereTold}
@@ -22,7 +20,7 @@ use Rattle.zd_examine.specs.Examined.{IsUsable}
 use Rattle.zd_examine.specs.declared.examining.Image.{Image as Volume}
 use Rattle.zd_examine.proofs.PointerLaws.{flag_count, usable_rounded, whole_pointers}
 use Rattle.zd_examine.specs.Opened.{HoldsBothSets, IsAlmostDurable, IsLeftOrKept, IsOpened, IsOpening, IsSameVolume, KeepsFrom, ServesContent, flags_in, open_calls, set_calls}
-use Rattle.zd_examine.specs.Padded.{ArePadsAscending, AreRoundedUp, HasPartOfPads, IsPadded, IsShortOf, PadsAscending, named_flags, needs_pad, pad_count, pads_before}
+use Rattle.zd_examine.specs.Padded.{ArePadsAscending, AreRoundedUp, HasPartOfPads, IsPadded, PadsAscending, named_flags, needs_pad, pad_count, pads_before}
 use Rattle.zd_examine.proofs.LeftLaws.{HasMade}
 use Rattle.zd_examine.proofs.OpenedLaws.{same_volume, tables_of_set, was_well_formed}
 use Rattle.zd_examine.proofs.PaddedLaws.{content_served, need_same, opened, sequential_same, sets_held, short_of, volume_padded}

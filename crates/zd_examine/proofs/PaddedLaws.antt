@@ -1,28 +1,25 @@
 -- A volume that is padded, whole or in part, is the same volume.
-use Rattle.std.proofs.Common.{◌≡◌, ◌⊎◌, ℕ, ◌+◌, ◌*◌, ◌/◌, ◌%◌, ◌<◌, ◌≤◌, ◌==◌, Bool, true, false, List, length, Some, Option, refl, sym, ap, ap₂, ◌∙◌, subst, inl, inr, arith}
+use Rattle.std.proofs.Common.{◌≡◌, ℕ, ◌<◌, ◌≤◌, Bool, true, false, List, length, Some, refl, sym, ap, ap₂, ◌∙◌, subst, inl, inr, arith}
 use Rattle.std.proofs.lemmas.Bool.{cases_lt, false≢true}
-use Rattle.std.specs.Prelude.{slice_index, slice_index_or}
+use Rattle.std.specs.Prelude.{slice_index}
 use Rattle.zd_base.specs.Geometry.{Shape, IsShape, zone_count}
-use Rattle.zd_base.specs.Layout.{set_zones, used_blocks}
-use Rattle.zd_model.specs.Image.{Image, IsImage, Same, SameZone, block_at, set_block}
-use Rattle.zd_model.specs.Super.{decoded}
+use Rattle.zd_base.specs.Layout.{used_blocks}
+use Rattle.zd_model.specs.Image.{Image, IsImage, Same, SameZone, set_block}
 use Rattle.zd_model.specs.Tables.{BitsFollowRules}
-use Rattle.zd_model.specs.Volume.{Chosen, IsWellFormed, content, good_super, if_own}
-use Rattle.zd_model.specs.declared.metadata.Super.{Super}
+use Rattle.zd_model.specs.Volume.{Chosen, IsWellFormed, content, good_super}
 use Rattle.zd_model.proofs.SameLaws.{image_at}
 use Rattle.zd_model.proofs.ContentLaws.{content_of_same, well_formed_of_same}
 use Rattle.zd_model.proofs.EventLaws.{SameZone-back, SameZone-trans}
-use Rattle.zd_sets.specs.Blocks.{AreBlocks, blocks_of}
-use Rattle.zd_sets.specs.Choice.{IsPlacedChoice, chosen_of}
+use Rattle.zd_sets.specs.Blocks.{blocks_of}
+use Rattle.zd_sets.specs.Choice.{IsPlacedChoice}
 use Rattle.zd_sets.specs.Equal.{InSet, IsMadeEqual, OnlyAt, head_at}
-use Rattle.zd_sets.specs.Kept.{KeepsVolume, ServesSame}
 use Rattle.zd_sets.specs.declared.choice.Chosen.{Chosen as Choice}
 use Rattle.zd_sets.proofs.EqualLaws.{first_block, here_inside, only_more, only_then, same_good, same_only, set_still, there_inside}
 use Rattle.zd_tables.specs.Tables.{tables_in}
-use Rattle.zd_examine.specs.Examined.{ArePointers, IsExamined, IsUsable}
-use Rattle.zd_examine.specs.Opened.{AreWhole, HoldsBothSets, HoldsSet, IsOpened, IsSameVolume, ServesContent}
+use Rattle.zd_examine.specs.Examined.{ArePointers, IsExamined}
+use Rattle.zd_examine.specs.Opened.{HoldsBothSets, HoldsSet, IsOpened, IsSameVolume, ServesContent}
 use Rattle.zd_examine.specs.Padded.{AreRoundedUp, HasPad, HasPartOfPads, IsPadded, IsShortOf, block_end, is_cut, needs_pad}
-use Rattle.zd_examine.proofs.OpenedLaws.{same_volume, served_is, was_well_formed}
+use Rattle.zd_examine.proofs.OpenedLaws.{served_is, was_well_formed}
 use Rattle.zd_examine.proofs.PadLaws.{padded_parts, part_from}
 use Rattle.zd_examine.proofs.PadSteps.{conventional_none, conventional_uncut, past_none}
 use Rattle.zd_examine.proofs.ChosenHead.{chosen_head}

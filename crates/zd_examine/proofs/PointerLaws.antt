@@ -1,5 +1,5 @@
 -- Pointers that are rounded up to blocks.
-use Rattle.std.proofs.Common.{◌≡◌, ℕ, ◌+◌, ◌*◌, ◌/◌, ◌%◌, ◌<◌, ◌≤◌, ◌==◌, Bool, true, false, not, ◌&&◌, List, ◌++◌, take, drop, length, refl, sym, ap, ◌∙◌, subst, inl, inr, arith}
+use Rattle.std.proofs.Common.{◌≡◌, ℕ, ◌+◌, ◌*◌, ◌%◌, ◌<◌, ◌≤◌, ◌==◌, Bool, true, false, not, ◌&&◌, List, ◌++◌, take, drop, length, refl, sym, ap, ◌∙◌, subst, inl, inr, arith}
 use Rattle.std.proofs.lemmas.Bool.{cases_lt, false≢true, le-ltb}
 use Rattle.std.proofs.lemmas.List.FromFn.{length-map-range_with_len}
 use Rattle.std.proofs.Math.ListN.{get_or-eq_default}
@@ -8,8 +8,7 @@ use borrow.Author.Tests.{eqb-true}
 use Rattle.std.specs.Prelude.{slice_index, slice_index_or}
 use Rattle.zd_base.specs.Geometry.{Shape, is_conventional, zone_count, zone_sectors}
 use Rattle.zd_model.specs.Faults.{has}
-use Rattle.zd_model.specs.Image.{Image}
-use Rattle.zd_model.specs.Tables.{BitsFollowRules, named_zones}
+use Rattle.zd_model.specs.Tables.{named_zones}
 use Rattle.zd_disk.specs.Told.{WhereTold}
 use Rattle.zd_disk.specs.View.{View, Turns}
 use Rattle.zd_disk.proofs.ViewLaws.{turned_back}
@@ -18,7 +17,7 @@ use Rattle.zd_sets.specs.declared.choice.Chosen.{Chosen as Choice}
 use Rattle.zd_tables.specs.Tables.{tables_in}
 use Rattle.zd_examine.specs.Examined.{ArePointers, IsExamined, IsUsable}
 use Rattle.zd_examine.specs.Opened.{AreWhole}
-use Rattle.zd_examine.specs.Padded.{AreRoundedUp, block_end, is_cut, named_flags}
+use Rattle.zd_examine.specs.Padded.{AreRoundedUp, block_end, is_cut}
 
 -- what a list holds that was written over as a whole
 pub with_all : (old new : List ℕ) (n : ℕ) → n ≡ length new → take n (new ++ drop (length new) old) ≡ new

@@ -1,4 +1,4 @@
-use Rattle.std.proofs.Common.{◌≡◌, ℕ, Bool, List, ◌++◌, take, drop, length, sym, ap, ◌∙◌, subst, arith}
+use Rattle.std.proofs.Common.{ℕ, Bool, List, ◌++◌, take, drop, length, sym, ap, ◌∙◌, subst, arith}
 use Rattle.zd_base.specs.Geometry.{IsShape, zone_count}
 use Rattle.zd_examine.specs.Padded.{AreRoundedUp}
 use Rattle.zd_disk.proofs.ToldLaws.{Some-same}

@@ -1,4 +1,4 @@
-use Rattle.std.proofs.Common.{◌≡◌, ◌+◌, ◌<◌, ◌≤◌, ℕ, List, Bool, true, false, sym, ap, ◌∙◌, subst, arith}
+use Rattle.std.proofs.Common.{◌≡◌, ◌+◌, ◌<◌, ◌≤◌, true, false, sym, ap, ◌∙◌, subst, arith}
 use Rattle.zd_base.specs.Geometry.{zone_count}
 use Rattle.std.specs.Prelude.{slice_index}
 use Rattle.zd_examine.specs.Padded.{AreRoundedUp, block_end, is_cut}

@@ -1,4 +1,4 @@
-use Rattle.std.proofs.Common.{◌≡◌, ◌*◌, ◌-◌, ◌%◌, ℕ, List, replicate, sym, ap, subst, arith}
+use Rattle.std.proofs.Common.{◌*◌, ◌-◌, ◌%◌, ℕ, arith}
 use Rattle.std.proofs.lemmas.List.{take-replicate}
 use Rattle.zd_examine.proofs.PadLaws.{leaves_is, step_is, zone_padded}
 use Rattle.zd_examine.proofs.PadSteps.{calls_as, err_anyway}
