@@ -6,19 +6,19 @@
 #
 # Usage: bench/alloc.sh. It builds the program where it isn't built.
 set -eu
-cd "$(dirname "$0")/../crates/zalloc_bench"
-test -x out/zalloc_bench || rt run -- 52 51 1000 1000 1000 1000 1000 1000 > /dev/null
+cd "$(dirname "$0")/../crates/bench_alloc"
+test -x out/bench_alloc || rt run -- 52 51 1000 1000 1000 1000 1000 1000 > /dev/null
 rounds=100000000
 calls=20000000
 
 # The user time of a run, in milliseconds.
 took() {
     TIMEFORMAT=%U
-    { time out/zalloc_bench "$@" > /dev/null; } 2>&1 | tr -d .
+    { time out/bench_alloc "$@" > /dev/null; } 2>&1 | tr -d .
 }
 
 for zones in '52 51' '26078 26077'; do
-    chunks=$(out/zalloc_bench $zones 0 0 0 0 0 0)
+    chunks=$(out/bench_alloc $zones 0 0 0 0 0 0)
     start=$(took $zones 0 0 0 0 0 0)
     takes=$(took $zones $rounds 0 0 0 0 0)
     touches=$(took $zones 0 $rounds 0 0 0 0)

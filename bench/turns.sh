@@ -3,9 +3,9 @@
 #
 # Usage: bench/turns.sh. It builds the program where it isn't built.
 set -eu
-cd "$(dirname "$0")/../crates/zturns"
-test -x out/zturns || rt run > /dev/null
+cd "$(dirname "$0")/../crates/bench_turns"
+test -x out/bench_turns || rt run > /dev/null
 TIMEFORMAT='%U s of user time, %R s in all'
 for _ in 1 2 3; do
-    time out/zturns
+    time out/bench_turns
 done

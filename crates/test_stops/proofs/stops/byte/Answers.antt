@@ -2,7 +2,7 @@ use Rattle.std.proofs.Common.{◌≡◌, ◌+◌, ◌<◌, ◌≤◌, sym, ◌�
 use Rattle.zd_base.specs.Geometry.{Shape}
 use Rattle.zd_model.specs.Image.{Image}
 use Rattle.zd_disk.proofs.ToldLaws.{IfSome-each, Some-same}
-use Rattle.zd_stop_rows.proofs.stops.byte.Goals as goal
+use Rattle.test_stops.proofs.stops.byte.Goals as goal
 
 pub read-requires-clause-below : goal.read-requires-clause-below
 read-requires-clause-below g c =

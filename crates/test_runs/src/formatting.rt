@@ -1,6 +1,5 @@
 //! Disks that are formatted by words, in memory and in files.
 
-use crate::fresh::fresh;
 use crate::image_file::{HEADER, fresh_file};
 use crate::run::{expect, lines, sink, words};
 use std::fs;

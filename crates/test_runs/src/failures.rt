@@ -4,7 +4,6 @@ ghost use Rattle.std.specs.Prelude.{Some};
 
 use crate::fresh::fresh;
 use crate::run::{run, sink, source};
-use std::process::Abort;
 use std::test::Fail;
 use zd_base::Status;
 use zd_disk::Failed;

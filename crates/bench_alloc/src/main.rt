@@ -1,5 +1,5 @@
 //! A benchmark of zones, of the use order and of candidates for jobs:
-//! `zalloc_bench CONV SEQ TAKES TOUCHES STORES WRITES CHANGES PICKS`.
+//! `bench_alloc CONV SEQ TAKES TOUCHES STORES WRITES CHANGES PICKS`.
 //!
 //! On a disk of so many conventional and sequential zones of 256 MiB it takes the last free
 //! conventional zone and gives it back so many times, and then touches so many chunks that stand

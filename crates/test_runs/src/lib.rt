@@ -1,8 +1,8 @@
-//! Whole runs over small volumes: what they print, and the status that they end with; and what crates
-//! make of whole disks: sets of metadata, openings.
+//! Runs and calls that no text of a case can say: over files, with sources and sinks of their own, very long
+//! scripts, and what crates answer to a caller.
 //!
 //! Tests alone stand here, above all the crates that they run through. In their texts `;` is the line
-//! feed byte.
+//! feed byte. What a text can say is a case: `docs/CASES.md`.
 #![tactic(auto)]
 
 #[cfg(test)]

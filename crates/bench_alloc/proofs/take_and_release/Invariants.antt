@@ -1,6 +1,6 @@
 -- No call on zones changes the use order.
 use Rattle.std.proofs.Common.{◌≡◌}
-use Rattle.zalloc_bench.proofs.take_and_release.Given as goal
+use Rattle.bench_alloc.proofs.take_and_release.Given as goal
 
 abbrev pub invariant-loop : goal.invariant-loop
 invariant-loop l = l.zones.order ≡ l.fn.zones.order

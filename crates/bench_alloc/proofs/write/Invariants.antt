@@ -1,6 +1,6 @@
 -- The next chunk is one of the disk's.
 use Rattle.std.proofs.Common.{◌≡◌, ◌<◌}
-use Rattle.zalloc_bench.proofs.write.Given as goal
+use Rattle.bench_alloc.proofs.write.Given as goal
 
 abbrev pub invariant-loop : goal.invariant-loop
 invariant-loop l = record { inside : l.chunk < l.chunks; all : l.chunks ≡ l.volume.chunks }

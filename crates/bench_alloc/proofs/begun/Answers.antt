@@ -4,7 +4,7 @@ use Rattle.std.proofs.lemmas.List.{length-replicate}
 use Rattle.std.proofs.lemmas.List.FromFn.{length-range_with_len}
 use Rattle.zd_base.specs.Layout.{Fits}
 use Rattle.zd_alloc.specs.declared.job_class.JobClass.{JobClass}
-use Rattle.zalloc_bench.proofs.begun.Goals as goal
+use Rattle.bench_alloc.proofs.begun.Goals as goal
 
 pub invariant_of-result-clause-some : goal.invariant_of-result-clause-some
 invariant_of-result-clause-some c =
