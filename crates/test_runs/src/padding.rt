@@ -1,8 +1,6 @@
 //! Volumes whose zones have pointers inside blocks, as they are opened.
 
-use crate::fresh::{
-    NONE, bitmap_of, flush, fresh, map_block, patterned, put, write_at,
-};
+use crate::fresh::{NONE, bitmap_of, flush, fresh, map_block, patterned, put, write_at};
 use crate::run::{expect, expect_calls};
 use std::process::Abort;
 use std::test::Fail;
@@ -51,7 +49,11 @@ fn expect_pointers(rt: &impl Abort, disk: &mut MemDisk, pointers: [u32; 3]) -> R
     let geometry = disk.geometry()?;
     assert!(rt; geometry.conv() == 6 && geometry.zones() == 12);
     for i in 0..3u32 {
-        assert_eq!(rt; disk.report(ZoneNo(6 + i))?, pointers[i as usize], "zone {i}");
+        assert_eq!(rt;
+            disk.report(ZoneNo(6 + i))?,
+            pointers[i as usize],
+            "zone {i}"
+        );
     }
     Ok(())
 }
@@ -100,7 +102,11 @@ fn a_stop_in_a_pad_leaves_the_volume(rt: HostRuntime) -> Result<(), Fail> {
             let mut seq = Vec::new(rt.alloc());
             seq.push((ZoneNo(6), sectors))?;
             let conv = Vec::new(rt.alloc());
-            let choices = Choices { newest: false, conv, seq };
+            let choices = Choices {
+                newest: false,
+                conv,
+                seq,
+            };
             if let Ok(image) = disk.stop_image(rt.alloc(), stop, &choices) {
                 let mut image = expect(&rt, image, READ, CONTENT, 0)?;
                 expect_pointers(&rt, &mut image, [16, 3, 16])?;

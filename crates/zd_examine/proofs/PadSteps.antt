@@ -1,9 +1,10 @@
 -- Pads, one call after another.
-use Rattle.std.proofs.Common.{◌≡◌, ◌≢◌, ℕ, ◌+◌, ◌-◌, ◌^◌, ◌<◌, ◌≤◌, Bool, true, false, cond, not, ◌&&◌, ◌%◌, List, Some, get_or, length, ap₂, refl, sym, ap, ◌∙◌, subst, inl, inr, arith}
+use Rattle.std.proofs.Common.{◌≡◌, ◌≢◌, ℕ, zero, suc, ◌+◌, ◌-◌, ◌^◌, ◌<◌, ◌≤◌, Bool, true, false, cond, not, ◌&&◌, ◌%◌, List, [], ◌∷◌, Some, get_or, length, ap₂, refl, sym, ap, ◌∙◌, subst, inl, inr, arith}
 use Rattle.std.proofs.lemmas.Bool.{cases_eq, cases_lt, false≢true, le-ltb}
 use borrow.Author.Tests.{eq-eqb, eqb-true, lt-ltb}
 use Rattle.std.proofs.Math.ListN.{get_or-eq_default, set}
 use Rattle.std.proofs.lemmas.List.{get_or-set_other, get_or-set_same, length-set}
+use Rattle.std.proofs.lemmas.List.Sums.{sum_by-append}
 use Rattle.zd_disk.proofs.RunLaws.{count_none, count_then}
 use Rattle.std.specs.Prelude.{◌==◌, Result, Ok, Err, OnErr, count_by, slice_index, slice_index_or}
 use Rattle.std.specs.List.{range_with_len}
@@ -28,10 +29,10 @@ before_more named i z n is =
     ap (λ (k : ℕ). count_by (needs_pad named i) (range_with_len 0 k)) (let e : z + 1 ≡ z + 1 - 0 = omega arith in e)
     ∙ count_then (needs_pad named i) 0 z (z + 1) (omega arith) (omega arith)
     ∙ ap₂ (λ (x y : ℕ). count_by (needs_pad named i) (range_with_len 0 x) + count_by (needs_pad named i)
-        (range_with_len z y))
+    (range_with_len z y))
     (let e : z - 0 ≡ z = omega arith in e) (let e : z + 1 - z ≡ 1 = omega arith in e)
     ∙ (let e : 0 + cond (needs_pad named i z) 1 0 ≡ n = omega (arith, is) in
-        ap (λ (m : ℕ). pads_before named i z + m) e)
+    ap (λ (m : ℕ). pads_before named i z + m) e)
 
 -- no conventional zone needs a pad
 pub conventional_uncut : (g : Shape) (named : List Bool) (z pointer : ℕ) → z < g.conv
@@ -82,6 +83,31 @@ pub none_before : (named : List Bool) (i : Image) (n : ℕ) → ((z : ℕ) → z
     → pads_before named i n ≡ 0
 none_before named i n none = count_none (needs_pad named i) 0 n (λ z above low. none z (omega arith))
 
+-- and where none of so many zones needs one, each of them needs none
+none_of : (p : ℕ → Bool) (a n k : ℕ) → count_by p (range_with_len a n) ≡ 0 → k < n → p (a + k) ≡ false
+none_of p a zero k none low = absurd (let wrong : ⊥ = omega arith in wrong)
+none_of p a (suc n) k none low =
+    let split = sum_by-append (λ j. cond (p j) 1 0) (a ∷ []) (range_with_len (a + 1) n) in
+    let rest : count_by p (range_with_len (a + 1) n) ≡ 0 = omega (arith, none, split) in
+    elim (cases_lt 0 k) [
+      | inl later ↦ (let at : a + k ≡ a + 1 + (k - 1) = omega arith in
+          ap p at ∙ none_of p (a + 1) n (k - 1) rest (omega arith))
+      | inr first ↦ (let at : a + k ≡ a = omega arith in ap p at ∙ no_one (p a) (omega (arith, none, split)))
+    ]
+  where
+    one : Bool → ℕ
+    one b = cond b 1 0
+
+    no_one : (b : Bool) → one b ≡ 0 → b ≡ false
+    no_one false e = refl
+    no_one true e = absurd (let wrong : ⊥ = omega (arith, e) in wrong)
+
+pub none_needed : (named : List Bool) (i : Image) (n z : ℕ) → pads_before named i n ≡ 0 → z < n
+    → needs_pad named i z ≡ false
+none_needed named i n z none low =
+    let at : z ≡ 0 + z = omega arith in
+    ap (needs_pad named i) at ∙ none_of (needs_pad named i) 0 n z none low
+
 -- Calls in other words
 
 pub calls_as : {b e : Image → Image → Image → Type 0} {begun : Image → Image → Image → Type 0}
@@ -95,15 +121,15 @@ calls_as {b} {e} {begun} {ended} {u} {v} {g} told first second call = record {
   read_calls = call.read_calls;
   left = λ low. (turns_as {R = λ r n. Grows u.calls u.left v.left (b r) (e r)} {u = u} {v = v} told
       (λ r n is after grows. record {
-    only = grows.only;
-    kept = grows.kept;
-    under_way = λ c can. (
-        let here = grows.under_way c can in
-        (here.0, here.1, first r here.0 c is (told_is u told u.calls here.0 (omega arith) here.1) here.2));
-    returned = λ c can. (
-        let here = grows.returned c can in
-        (here.0, here.1, second r n here.0 c is (told_is u told u.calls here.0 (omega arith) here.1) here.2));
-  }) (record { reads = call.left low })).reads;
+        only = grows.only;
+        kept = grows.kept;
+        under_way = λ c can. (
+            let here = grows.under_way c can in
+            (here.0, here.1, first r here.0 c is (told_is u told u.calls here.0 (omega arith) here.1) here.2));
+        returned = λ c can. (
+            let here = grows.returned c can in
+            (here.0, here.1, second r n here.0 c is (told_is u told u.calls here.0 (omega arith) here.1) here.2));
+      }) (record { reads = call.left low })).reads;
 }
 
 -- one call that makes of an image the same, under way and returned, is one step of that way
@@ -115,7 +141,7 @@ by_call {R} {u} {v} turns call = record {
   reads = turns;
   left = λ low i e. (
       let grows = (turned {P = λ r n. Grows u.calls u.left v.left (R r) (R r)} {u = u} {v = v}
-          (record { reads = call.left low }) i e).2 in
+      (record { reads = call.left low }) i e).2 in
       let one : v.calls ≡ u.calls + 1 = omega (arith, call.calls, low) in
       record {
         earlier = λ k c under can. grows.only k c under can;
@@ -145,14 +171,14 @@ same_parts i a same = record {
 -- whether a zone needs a pad is told by the pointers
 pub need_is : (named : List Bool) {g : Shape} (u : View) (pointers : List ℕ) (z : ℕ) (b : Bool) → u.told ≡ Some g
     → WhereTold u.zones (λ i. ArePointers i pointers) → g.conv ≤ z → z < zone_count g
-        → is_cut g named z (slice_index pointers z) ≡ b
+    → is_cut g named z (slice_index pointers z) ≡ b
     → WhereTold u.zones (λ i. needs_pad named i z ≡ b)
 need_is named {g} u pointers z b told are seq low is i e =
     let same = (read_as {v = u} told i e).geometry in
     let conv = ap (λ (h : Shape). h.conv) same in
     let count = ap (λ (h : Shape). zone_count h) same in
     ap₂ (λ (h : Shape) (p : ℕ). is_cut h named z p) same
-        (sym ((are i e).sequential z (omega (arith, seq, conv)) (omega (arith, low, count)))) ∙ is
+    (sym ((are i e).sequential z (omega (arith, seq, conv)) (omega (arith, low, count)))) ∙ is
 
 -- the pointer of a zone that isn't padded yet
 pub pointer_is : {named : List Bool} {g : Shape} {u v : View} (pointers : List ℕ) (z : ℕ) → u.told ≡ Some g
@@ -164,7 +190,7 @@ pointer_is {named} {g} {u} {v} pointers z told are seq low h j e =
     let conv = ap (λ (h : Shape). h.conv) same in
     let count = ap (λ (h : Shape). zone_count h) same in
     (there.2.later z (omega arith)).held
-        ∙ sym ((are there.0 there.1).sequential z (omega (arith, seq, conv)) (omega (arith, low, count)))
+    ∙ sym ((are there.0 there.1).sequential z (omega (arith, seq, conv)) (omega (arith, low, count)))
 
 -- pointers
 
@@ -194,7 +220,7 @@ rounded_skip {g} {named} {z} {p} {q} h none = record {
 pub rounded_more : {g : Shape} {named : List Bool} {z : ℕ} {p q : List ℕ} (n : ℕ) → AreRoundedUp g named z p q
     → z < length q
     → is_cut g named z (slice_index p z) ≡ true → n ≡ block_end (slice_index p z)
-        → AreRoundedUp g named (z + 1) p (set q z n)
+    → AreRoundedUp g named (z + 1) p (set q z n)
 rounded_more {g} {named} {z} {p} {q} n h low cut is = record {
   count = length-set q z n ∙ h.count;
   pads = λ y under some. elim (cases_eq y z) [
@@ -229,13 +255,20 @@ module _ {named : List Bool} {g : Shape} {u : View} (told : u.told ≡ Some g) w
             (a, here, same_parts i a (durable.left low i e a here)));
       };
     };
-    ascending = record { left = λ low i e k z a above below can under.
-        (durable.left low i e a
-        (subst (λ (n : ℕ). u.left n a) (let f : k ≡ u.calls = omega arith in f) can)).zones z };
-    counted = record { number_is =
-        λ low i e. (let conv = ap (λ (h : Shape). h.conv) (read_as {v = u} told i e).geometry in
-        omega (arith, none_before named i n
-            (λ z under. conventional_none named i z (omega (arith, under, conv, first))))) };
+    ascending = record {
+      left = λ low i e k z a above below can under.
+          (durable.left low i e a
+          (subst (λ (n : ℕ). u.left n a) (let f : k ≡ u.calls = omega arith in f) can)).zones z;
+    };
+    counted = record {
+      number_is =
+          λ low i e. (let conv = ap (λ (h : Shape). h.conv) (read_as {v = u} told i e).geometry in
+          omega (
+            arith,
+            none_before named i n
+                (λ z under. conventional_none named i z (omega (arith, under, conv, first))),
+          ));
+    };
   }
 
   module _ {z : ℕ} {v : View} (h : HasPaddedTo named z u v) where
@@ -245,10 +278,12 @@ module _ {named : List Bool} {g : Shape} {u : View} (told : u.told ≡ Some g) w
       padded = turns_as told (λ a b is after k. padded_skip k (none a is.is)) h.padded;
       way = h.way;
       ascending = h.ascending;
-      counted = record { number_is = λ low i e. h.counted.number_is low i e
-          ∙ ap (λ n. u.calls + n)
-              (let f : pads_before named i z ≡ pads_before named i (z + 1) =
-              omega (arith, before_more named i z 0 (ap (λ b. cond b 1 0) (none i e))) in f) };
+      counted = record {
+        number_is = λ low i e. h.counted.number_is low i e
+            ∙ ap (λ n. u.calls + n)
+            (let f : pads_before named i z ≡ pads_before named i (z + 1) =
+            omega (arith, before_more named i z 0 (ap (λ b. cond b 1 0) (none i e))) in f);
+      };
     }
 
     -- it gets one
@@ -265,7 +300,7 @@ module _ {named : List Bool} {g : Shape} {u : View} (told : u.told ≡ Some g) w
         left = λ low i e k y a above below can under. (
             let there = (turned h.padded i e) in
             let grows = (turned {P = λ r n. Grows v.calls v.left w.left (IsPadStep r z) (IsPadStep r z)} {u = v}
-                {v = w} (record { reads = call.left low }) there.0 there.1).2 in
+            {v = w} (record { reads = call.left low }) there.0 there.1).2 in
             let one : w.calls ≡ v.calls + 1 = omega (arith, call.calls, low) in
             let fewer : v.calls < 2 ^ 64 - 1 = omega (arith, one, low) in
             let number = h.counted.number_is fewer i e in
@@ -275,7 +310,7 @@ module _ {named : List Bool} {g : Shape} {u : View} (told : u.told ≡ Some g) w
                   (grows.only k a early can) under
               | inr late ↦
                   let other : y ≢ z = λ f.
-                      (let same = ap (λ n. pads_before named i n) f in omega (arith, same, under, late, number)) in
+                  (let same = ap (λ n. pads_before named i n) f in omega (arith, same, under, late, number)) in
                   let step : (d : Image) × v.left v.calls d × IsPadStep there.0 z d a = elim (cases_lt v.calls k) [
                     | inl over ↦ grows.returned a
                         (subst (λ (n : ℕ). w.left n a)
@@ -285,7 +320,7 @@ module _ {named : List Bool} {g : Shape} {u : View} (told : u.told ≡ Some g) w
                   ] in
                   SameZone-trans i step.0 a y
                   (h.ascending.left fewer i e v.calls y step.0 order (omega arith) step.1
-                      (omega (arith, late, under)))
+                  (omega (arith, late, under)))
                   (step.2.others y other)
             ]);
       }
@@ -295,11 +330,13 @@ module _ {named : List Bool} {g : Shape} {u : View} (told : u.told ≡ Some g) w
         padded = turns_with (λ a b c e m is k pad. padded_more k (need a e) pad) h.padded done;
         way = way_next (turns_as (h.way.stays.told g told) (λ a b is after k. padded_step k) done);
         ascending = ascending_next;
-        counted = record { number_is = λ low i e. (
-            let one : w.calls ≡ v.calls + 1 = omega (arith, call.calls, low) in
-            let number = h.counted.number_is (omega (arith, one, low)) i e in
-            let more = before_more named i z 1 (ap (λ b. cond b 1 0) (need i e)) in
-            omega (arith, one, number, more)) };
+        counted = record {
+          number_is = λ low i e. (
+              let one : w.calls ≡ v.calls + 1 = omega (arith, call.calls, low) in
+              let number = h.counted.number_is (omega (arith, one, low)) i e in
+              let more = before_more named i z 1 (ap (λ b. cond b 1 0) (need i e)) in
+              omega (arith, one, number, more));
+        };
       }
 
 pub err_anyway : {T E : Type 0} {P : Type 0} (r : Result T E) → P → OnErr r P

@@ -99,7 +99,7 @@ module _ {g : Shape} {c : Choice} {bytes reported : List ℕ} (middle new : Imag
       record {
         only = only_then (InSet g c.other 0 (used_blocks g c.head.layout)) middle new k equal.only
             (only_more (λ z x. ⊥) (InSet g c.other 0 (used_blocks g c.head.layout)) new k
-                (λ z x wrong. absurd wrong) none);
+            (λ z x wrong. absurd wrong) none);
         super = same_good new k c.other none.geometry
             (none.elsewhere c.other 0 (omega (arith, conv, there)) (omega (arith, blocks, some)) (λ wrong. wrong))
             ∙ equal.super;
@@ -147,7 +147,7 @@ module _ {g : Shape} {c : Choice} {bytes reported : List ℕ} (middle new : Imag
 module _ {g : Shape} {c : Choice} {bytes reported : List ℕ} (old middle j : Image) (first : IsImage old)
     (second : IsImage middle) (third : IsImage j)
     (shape : IsShape old.geometry) (same : Same old middle) (e : IsExamined g c bytes reported middle)
-        (placed : IsPlacedChoice g c)
+    (placed : IsPlacedChoice g c)
     (equal : IsMadeEqual g c (used_blocks g c.head.layout) middle j) where
   some : 0 < g.zone_blocks
   some = let size = (subst IsShape (sym (e.geometry ∙ same.geometry)) shape).size.least in omega (arith, size)
@@ -176,7 +176,7 @@ module _ {g : Shape} {c : Choice} {bytes reported : List ℕ} (old middle j : Im
         cut : HoldsBothSets g c bytes (image_at j.geometry j.held i.sector)
         cut = both_held middle (image_at j.geometry j.held i.sector) some e placed
             (equal_same middle j some e placed equal (image_at j.geometry j.held i.sector) third
-                (cut_same j i third after parts))
+            (cut_same j i third after parts))
 
         here : HoldsBothSets g c bytes (image_at j.geometry i.held i.sector)
         here = record {
@@ -190,7 +190,7 @@ module _ {g : Shape} {c : Choice} {bytes reported : List ℕ} (old middle j : Im
       served = served_is g c bytes reported old middle (image_at j.geometry j.held i.sector) first second
           (cut_image j i third after parts) shape same e placed
           (equal_same middle j some e placed equal (image_at j.geometry j.held i.sector) third
-              (cut_same j i third after parts));
+          (cut_same j i third after parts));
       bits = record {
         named = bits.named;
         below = λ z x far low within valid. (
@@ -245,7 +245,7 @@ module _ {g : Shape} {c : Choice} {bytes reported : List ℕ} (old middle j : Im
       served = served_is g c bytes reported old middle (image_at j.geometry j.held w.sector) first second
           (cut_image j w third after (padded_parts padded)) shape same e placed
           (equal_same middle j some e placed equal (image_at j.geometry j.held w.sector) third
-              (cut_same j w third after (padded_parts padded)));
+          (cut_same j w third after (padded_parts padded)));
       pointers = pointers_padded;
       pads = λ z need. elim (cases_lt z old.geometry.conv) [
         | inl conv ↦ absurd (false≢true (sym (conventional_none named old z conv) ∙ need))
@@ -260,6 +260,14 @@ module _ {g : Shape} {c : Choice} {bytes reported : List ℕ} (old middle j : Im
       others = λ z seq none. SameZone-trans old j w z (sequential_same z seq)
           (padded.others z (need_same named z ∙ none));
     }
+
+-- where no zone needs a pad, each image with parts of the pads holds the same
+pub unpadded : {named : List Bool} {upto : ℕ} (j now i : Image) → IsPadded named upto j now
+    → HasPartOfPads named j i → ((z : ℕ) → needs_pad named j z ≡ false) → Same now i
+unpadded j now i whole parts none = record {
+  geometry = parts.geometry ∙ sym whole.geometry;
+  zones = λ z. SameZone-back j now i z (whole.others z (none z)) (parts.others z (none z));
+}
 
 -- an image with parts of the pads lacks no more than their ends
 pub short_of : {named : List Bool} {upto : ℕ} (j now i : Image) → IsPadded named upto j now

@@ -45,7 +45,7 @@ pointers_made {g} {c} {bytes} {reported} {end} {s} {v} equal found j e =
       sequential = λ z seq low. (
           let here : there.0.geometry.conv ≤ z = subst (λ (h : Shape). h.conv ≤ z) only.geometry seq in
           was.sequential z here (subst (λ (h : Shape). z < zone_count h) only.geometry low)
-              ∙ sym (only.sequential z here).held);
+          ∙ sym (only.sequential z here).held);
     }
 
 module _ {g : Shape} {named : List Bool} {reported rounded : List ℕ} (size : length named ≡ zone_count g)

@@ -3,7 +3,7 @@ use Rattle.std.specs.Prelude.{◌≡◌, ◌⊎◌, ℕ, ◌+◌, ◌-◌, ◌%�
 use Rattle.zd_base.specs.Geometry.{Shape}
 use Rattle.zd_base.specs.Layout.{set_zones, used_blocks}
 use Rattle.zd_disk.specs.Told.{next_count, WhereTold}
-use Rattle.zd_disk.specs.View.{Holds, MadeOf, Turns, View}
+use Rattle.zd_disk.specs.View.{View, Holds, IsDurable, MadeOf, Turns}
 use Rattle.zd_model.specs.Image.{Image, Same, SameZone, set_block}
 use Rattle.zd_model.specs.Tables.{BitsFollowRules, served}
 use Rattle.zd_model.specs.Volume.{Chosen as Set, IsWellFormed, content, good_super, tables_of}
@@ -112,6 +112,9 @@ pub record IsOpening (v : Volume) (u w : View) : Type 0 where
   pub leaves : w.calls < 2 ^ 64 - 1 → WhereTold u.zones (λ old. (i : Image) → w.left w.calls i →
       ServesContent v.geometry v.chosen v.blocks old i)
   pub almost_durable : IsAlmostDurable w
+  -- where no zone needs a pad a stop leaves nothing else
+  pub durable : WhereTold u.zones (λ old.
+      pad_count (flags_in old (chosen_of v.chosen)) old ≡ 0 → IsDurable w)
   pub ascending : w.calls < 2 ^ 64 - 1 → WhereTold u.zones (λ old.
       ArePadsAscending v.named.items old (u.calls + set_calls v.chosen old) w)
   pub counted : MadeOf (open_calls v.chosen) u w

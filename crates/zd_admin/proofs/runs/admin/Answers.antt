@@ -18,7 +18,7 @@ returns-in_default-clause-usage g c =
 pub returns-clause-usage : goal.returns-clause-usage
 returns-clause-usage g c =
     let right : IsAdminCommand (map string_bytes c.args.words.now) =
-        (c.in-Some.asked.reserved, c.in-Some.asked.volume, c.in-Some.ensures.some) in
+    (c.in-Some.asked.reserved, c.in-Some.asked.volume, c.in-Some.ensures.some) in
     (λ one. absurd (no_usage_status c.in-Some.asked.reserved _ c.run-outcome.result c.run-outcome.ensures.ended (status_told c.tell-status.ensures) one), λ wrong. absurd (wrong right))
 
 pub returns-clause-report : goal.returns-clause-report

@@ -16,13 +16,13 @@ pub make_equal-requires-clause-chosen : goal.make_equal-requires-clause-chosen
 make_equal-requires-clause-chosen g c image z =
     let volume = c.in-Ok-examine.image in
     choice_of volume.geometry volume.chosen volume.blocks volume.pointers.items image
-        (c.in-Ok-examine.ensures.ok image (sym c.examine.ensures.reads.zones ∙ z))
+    (c.in-Ok-examine.ensures.ok image (sym c.examine.ensures.reads.zones ∙ z))
 
 pub make_equal-requires-clause-blocks : goal.make_equal-requires-clause-blocks
 make_equal-requires-clause-blocks g c image z =
     let volume = c.in-Ok-examine.image in
     blocks_of_set volume.geometry volume.chosen volume.blocks volume.pointers.items image
-        (c.in-Ok-examine.ensures.ok image (sym c.examine.ensures.reads.zones ∙ z))
+    (c.in-Ok-examine.ensures.ok image (sym c.examine.ensures.reads.zones ∙ z))
 
 pub returns-in-Err-clause-err : goal.returns-in-Err-clause-err
 returns-in-Err-clause-err g c image z =
@@ -30,7 +30,7 @@ returns-in-Err-clause-err g c image z =
     let settled = turned c.settle.ensures.way.reads image z in
     let is = read_as {v = view c.settle.new.disk} c.in-Ok.ensures.told settled.0 settled.1 in
     explains_same image settled.0 ((view c.args.disk.now).shaped image z)
-        (subst IsShape (sym is.geometry ∙ settled.2.geometry) c.in-Ok.ensures.shape)
+    (subst IsShape (sym is.geometry ∙ settled.2.geometry) c.in-Ok.ensures.shape)
     settled.2 c.in-Err.fault (c.in-Err.ensures.err settled.0 settled.1)
 
 pub returns-in_default-clause-way : goal.returns-in_default-clause-way
@@ -52,32 +52,31 @@ returns-in-Err-clause-kept g c =
 pub returns-in-Err-clause-settled : goal.returns-in-Err-clause-settled
 returns-in-Err-clause-settled g c fine =
     settled_keeps (reaches_read c.settle.ensures.way c.examine.ensures.reads)
-        (c.examine.ensures.reads.calls ∙ c.in-Ok.ensures.counted)
-        (durable_read c.examine.ensures.reads c.in-Ok.ensures.durable)
-
+    (c.examine.ensures.reads.calls ∙ c.in-Ok.ensures.counted)
+    (durable_read c.examine.ensures.reads c.in-Ok.ensures.durable)
 
 -- the other set could not be made equal
 pub returns-in_default-make_equal-clause-way : goal.returns-in_default-make_equal-clause-way
 returns-in_default-make_equal-clause-way g c =
     made_way (c.examine.ensures.reads.stays.told _ c.in-Ok.ensures.told) c.in-Ok.ensures.shape
     (reaches_read c.settle.ensures.way c.examine.ensures.reads)
-        (λ i e. c.in-Ok-examine.ensures.ok i (sym c.examine.ensures.reads.zones ∙ e))
+    (λ i e. c.in-Ok-examine.ensures.ok i (sym c.examine.ensures.reads.zones ∙ e))
     (durable_read c.examine.ensures.reads c.in-Ok.ensures.durable) c.make_equal.ensures.kept c.make_equal.ensures.way
 
 pub returns-in_default-make_equal-clause-kept : goal.returns-in_default-make_equal-clause-kept
 returns-in_default-make_equal-clause-kept g c =
     way_keeps (made_way (c.examine.ensures.reads.stays.told _ c.in-Ok.ensures.told) c.in-Ok.ensures.shape
     (reaches_read c.settle.ensures.way c.examine.ensures.reads)
-        (λ i e. c.in-Ok-examine.ensures.ok i (sym c.examine.ensures.reads.zones ∙ e))
+    (λ i e. c.in-Ok-examine.ensures.ok i (sym c.examine.ensures.reads.zones ∙ e))
     (durable_read c.examine.ensures.reads c.in-Ok.ensures.durable) c.make_equal.ensures.kept c.make_equal.ensures.way)
 
 pub returns-in_default-make_equal-clause-settled : goal.returns-in_default-make_equal-clause-settled
 returns-in_default-make_equal-clause-settled g c two =
     made_keeps (c.examine.ensures.reads.stays.told _ c.in-Ok.ensures.told) c.in-Ok.ensures.shape
     (reaches_read c.settle.ensures.way c.examine.ensures.reads)
-        (λ i e. c.in-Ok-examine.ensures.ok i (sym c.examine.ensures.reads.zones ∙ e))
+    (λ i e. c.in-Ok-examine.ensures.ok i (sym c.examine.ensures.reads.zones ∙ e))
     (durable_read c.examine.ensures.reads c.in-Ok.ensures.durable) c.make_equal.ensures.kept
-        (c.examine.ensures.reads.calls ∙ c.in-Ok.ensures.counted)
+    (c.examine.ensures.reads.calls ∙ c.in-Ok.ensures.counted)
 
 -- it was, and zones are padded
 pub pad-requires-clause-flags : goal.pad-requires-clause-flags
@@ -87,79 +86,79 @@ pad-requires-clause-flags g c =
 pub pad-requires-clause-pointers : goal.pad-requires-clause-pointers
 pad-requires-clause-pointers g c =
     subst (λ (ps : List ℕ). WhereTold (g.D.ZonedDisk.view c.make_equal.new.disk).zones (λ i. ArePointers i ps))
-        (sym c.deref_mut.ensures.value)
+    (sym c.deref_mut.ensures.value)
     (pointers_made c.in-Ok-make_equal.ensures.ok
-        (λ i e. c.in-Ok-examine.ensures.ok i (sym c.examine.ensures.reads.zones ∙ e)))
+    (λ i e. c.in-Ok-examine.ensures.ok i (sym c.examine.ensures.reads.zones ∙ e)))
 
 pub returns-in-Ok-pad-clause-way : goal.returns-in-Ok-pad-clause-way
 returns-in-Ok-pad-clause-way g c =
     pads_way (has_made (c.examine.ensures.reads.stays.told _ c.in-Ok.ensures.told) c.in-Ok.ensures.shape
     (reaches_read c.settle.ensures.way c.examine.ensures.reads)
-        (λ i e. c.in-Ok-examine.ensures.ok i (sym c.examine.ensures.reads.zones ∙ e))
+    (λ i e. c.in-Ok-examine.ensures.ok i (sym c.examine.ensures.reads.zones ∙ e))
     c.in-Ok-make_equal.ensures.ok c.make_equal.ensures.kept) c.pad.ensures.way
-        (made_way (c.examine.ensures.reads.stays.told _ c.in-Ok.ensures.told) c.in-Ok.ensures.shape
+    (made_way (c.examine.ensures.reads.stays.told _ c.in-Ok.ensures.told) c.in-Ok.ensures.shape
     (reaches_read c.settle.ensures.way c.examine.ensures.reads)
-        (λ i e. c.in-Ok-examine.ensures.ok i (sym c.examine.ensures.reads.zones ∙ e))
+    (λ i e. c.in-Ok-examine.ensures.ok i (sym c.examine.ensures.reads.zones ∙ e))
     (durable_read c.examine.ensures.reads c.in-Ok.ensures.durable) c.make_equal.ensures.kept c.make_equal.ensures.way)
 
 pub returns-in-Ok-pad-clause-kept : goal.returns-in-Ok-pad-clause-kept
 returns-in-Ok-pad-clause-kept g c =
     way_keeps (pads_way (has_made (c.examine.ensures.reads.stays.told _ c.in-Ok.ensures.told) c.in-Ok.ensures.shape
     (reaches_read c.settle.ensures.way c.examine.ensures.reads)
-        (λ i e. c.in-Ok-examine.ensures.ok i (sym c.examine.ensures.reads.zones ∙ e))
+    (λ i e. c.in-Ok-examine.ensures.ok i (sym c.examine.ensures.reads.zones ∙ e))
     c.in-Ok-make_equal.ensures.ok c.make_equal.ensures.kept) c.pad.ensures.way
-        (made_way (c.examine.ensures.reads.stays.told _ c.in-Ok.ensures.told) c.in-Ok.ensures.shape
+    (made_way (c.examine.ensures.reads.stays.told _ c.in-Ok.ensures.told) c.in-Ok.ensures.shape
     (reaches_read c.settle.ensures.way c.examine.ensures.reads)
-        (λ i e. c.in-Ok-examine.ensures.ok i (sym c.examine.ensures.reads.zones ∙ e))
+    (λ i e. c.in-Ok-examine.ensures.ok i (sym c.examine.ensures.reads.zones ∙ e))
     (durable_read c.examine.ensures.reads c.in-Ok.ensures.durable) c.make_equal.ensures.kept
-        c.make_equal.ensures.way))
+    c.make_equal.ensures.way))
 
 pub returns-in-Ok-pad-clause-settled : goal.returns-in-Ok-pad-clause-settled
 returns-in-Ok-pad-clause-settled g c two =
     pads_keep (has_made (c.examine.ensures.reads.stays.told _ c.in-Ok.ensures.told) c.in-Ok.ensures.shape
     (reaches_read c.settle.ensures.way c.examine.ensures.reads)
-        (λ i e. c.in-Ok-examine.ensures.ok i (sym c.examine.ensures.reads.zones ∙ e))
+    (λ i e. c.in-Ok-examine.ensures.ok i (sym c.examine.ensures.reads.zones ∙ e))
     c.in-Ok-make_equal.ensures.ok c.make_equal.ensures.kept) c.pad.ensures.way
-        (made_keeps (c.examine.ensures.reads.stays.told _ c.in-Ok.ensures.told) c.in-Ok.ensures.shape
+    (made_keeps (c.examine.ensures.reads.stays.told _ c.in-Ok.ensures.told) c.in-Ok.ensures.shape
     (reaches_read c.settle.ensures.way c.examine.ensures.reads)
-        (λ i e. c.in-Ok-examine.ensures.ok i (sym c.examine.ensures.reads.zones ∙ e))
+    (λ i e. c.in-Ok-examine.ensures.ok i (sym c.examine.ensures.reads.zones ∙ e))
     (durable_read c.examine.ensures.reads c.in-Ok.ensures.durable) c.make_equal.ensures.kept
-        (c.examine.ensures.reads.calls ∙ c.in-Ok.ensures.counted))
+    (c.examine.ensures.reads.calls ∙ c.in-Ok.ensures.counted))
 
 pub returns-in-Err-pad-clause-way : goal.returns-in-Err-pad-clause-way
 returns-in-Err-pad-clause-way g c =
     pads_way (has_made (c.examine.ensures.reads.stays.told _ c.in-Ok.ensures.told) c.in-Ok.ensures.shape
     (reaches_read c.settle.ensures.way c.examine.ensures.reads)
-        (λ i e. c.in-Ok-examine.ensures.ok i (sym c.examine.ensures.reads.zones ∙ e))
+    (λ i e. c.in-Ok-examine.ensures.ok i (sym c.examine.ensures.reads.zones ∙ e))
     c.in-Ok-make_equal.ensures.ok c.make_equal.ensures.kept) c.pad.ensures.way
-        (made_way (c.examine.ensures.reads.stays.told _ c.in-Ok.ensures.told) c.in-Ok.ensures.shape
+    (made_way (c.examine.ensures.reads.stays.told _ c.in-Ok.ensures.told) c.in-Ok.ensures.shape
     (reaches_read c.settle.ensures.way c.examine.ensures.reads)
-        (λ i e. c.in-Ok-examine.ensures.ok i (sym c.examine.ensures.reads.zones ∙ e))
+    (λ i e. c.in-Ok-examine.ensures.ok i (sym c.examine.ensures.reads.zones ∙ e))
     (durable_read c.examine.ensures.reads c.in-Ok.ensures.durable) c.make_equal.ensures.kept c.make_equal.ensures.way)
 
 pub returns-in-Err-pad-clause-kept : goal.returns-in-Err-pad-clause-kept
 returns-in-Err-pad-clause-kept g c =
     way_keeps (pads_way (has_made (c.examine.ensures.reads.stays.told _ c.in-Ok.ensures.told) c.in-Ok.ensures.shape
     (reaches_read c.settle.ensures.way c.examine.ensures.reads)
-        (λ i e. c.in-Ok-examine.ensures.ok i (sym c.examine.ensures.reads.zones ∙ e))
+    (λ i e. c.in-Ok-examine.ensures.ok i (sym c.examine.ensures.reads.zones ∙ e))
     c.in-Ok-make_equal.ensures.ok c.make_equal.ensures.kept) c.pad.ensures.way
-        (made_way (c.examine.ensures.reads.stays.told _ c.in-Ok.ensures.told) c.in-Ok.ensures.shape
+    (made_way (c.examine.ensures.reads.stays.told _ c.in-Ok.ensures.told) c.in-Ok.ensures.shape
     (reaches_read c.settle.ensures.way c.examine.ensures.reads)
-        (λ i e. c.in-Ok-examine.ensures.ok i (sym c.examine.ensures.reads.zones ∙ e))
+    (λ i e. c.in-Ok-examine.ensures.ok i (sym c.examine.ensures.reads.zones ∙ e))
     (durable_read c.examine.ensures.reads c.in-Ok.ensures.durable) c.make_equal.ensures.kept
-        c.make_equal.ensures.way))
+    c.make_equal.ensures.way))
 
 pub returns-in-Err-pad-clause-settled : goal.returns-in-Err-pad-clause-settled
 returns-in-Err-pad-clause-settled g c two =
     pads_keep (has_made (c.examine.ensures.reads.stays.told _ c.in-Ok.ensures.told) c.in-Ok.ensures.shape
     (reaches_read c.settle.ensures.way c.examine.ensures.reads)
-        (λ i e. c.in-Ok-examine.ensures.ok i (sym c.examine.ensures.reads.zones ∙ e))
+    (λ i e. c.in-Ok-examine.ensures.ok i (sym c.examine.ensures.reads.zones ∙ e))
     c.in-Ok-make_equal.ensures.ok c.make_equal.ensures.kept) c.pad.ensures.way
-        (made_keeps (c.examine.ensures.reads.stays.told _ c.in-Ok.ensures.told) c.in-Ok.ensures.shape
+    (made_keeps (c.examine.ensures.reads.stays.told _ c.in-Ok.ensures.told) c.in-Ok.ensures.shape
     (reaches_read c.settle.ensures.way c.examine.ensures.reads)
-        (λ i e. c.in-Ok-examine.ensures.ok i (sym c.examine.ensures.reads.zones ∙ e))
+    (λ i e. c.in-Ok-examine.ensures.ok i (sym c.examine.ensures.reads.zones ∙ e))
     (durable_read c.examine.ensures.reads c.in-Ok.ensures.durable) c.make_equal.ensures.kept
-        (c.examine.ensures.reads.calls ∙ c.in-Ok.ensures.counted))
+    (c.examine.ensures.reads.calls ∙ c.in-Ok.ensures.counted))
 
 pub returns-in-Ok-pad-clause-ok : goal.returns-in-Ok-pad-clause-ok
 returns-in-Ok-pad-clause-ok g c =
@@ -170,17 +169,17 @@ returns-in-Ok-pad-clause-ok g c =
     let shape = (subst IsShape same c.in-Ok.ensures.shape).size.least in
     let up = c.in-Ok-pad.ensures.rounded in
     let rounded : List ℕ = take image.pointers.len
-        (c.pad.new.pointers ++ drop (length c.pad.new.pointers) image.pointers.items) in
+    (c.pad.new.pointers ++ drop (length c.pad.new.pointers) image.pointers.items) in
     let items = with_all image.pointers.items c.pad.new.pointers image.pointers.len
-        (omega (arith, up.count, c.deref_mut.ensures.len)) in
+    (omega (arith, up.count, c.deref_mut.ensures.len)) in
     opening_is (c.make_equal.ensures.way.stays.told _ told) c.in-Ok-examine.ensures.usable
     (has_made (c.examine.ensures.reads.stays.told _ c.in-Ok.ensures.told) c.in-Ok.ensures.shape
     (reaches_read c.settle.ensures.way c.examine.ensures.reads)
-        (λ i e. c.in-Ok-examine.ensures.ok i (sym c.examine.ensures.reads.zones ∙ e))
+    (λ i e. c.in-Ok-examine.ensures.ok i (sym c.examine.ensures.reads.zones ∙ e))
     c.in-Ok-make_equal.ensures.ok c.make_equal.ensures.kept)
     (counted_sets image.geometry c.in-Ok-examine.ensures.usable.placed (omega (arith, shape)) told
     (c.examine.ensures.reads.calls ∙ c.in-Ok.ensures.counted)
-        (reaches_read c.settle.ensures.way c.examine.ensures.reads)
+    (reaches_read c.settle.ensures.way c.examine.ensures.reads)
     c.make_equal.ensures.way.order c.in-Ok-make_equal.ensures.counted)
     (subst (λ (ns : List Bool). HasPads image.geometry ns image.pointers.items rounded
     (view c.make_equal.new.disk) (view c.pad.new.disk)) c.deref.ensures.value (record {
@@ -188,7 +187,7 @@ returns-in-Ok-pad-clause-ok g c =
       rounded_up = subst (λ (ps : List ℕ). AreRoundedUp image.geometry c.deref.result.now
           (zone_count image.geometry) ps rounded) c.deref_mut.ensures.value
           (subst (AreRoundedUp image.geometry c.deref.result.now
-              (zone_count image.geometry) c.deref_mut.result.now) (sym items) up);
+          (zone_count image.geometry) c.deref_mut.result.now) (sym items) up);
       way = c.pad.ensures.way;
       ascending = c.pad.ensures.ascending;
       counted = c.in-Ok-pad.ensures.counted;

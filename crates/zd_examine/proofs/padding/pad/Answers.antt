@@ -20,7 +20,7 @@ returns-in_err-pointers-clause-way g c =
     let pointers = c.args.pointers.now in
     let seq : c.args.geometry.now.conv ≤ z = omega (arith, c.loop-zone.auto.zone, c.conv-zone.ensures.value) in
     let low : z < zone_count c.args.geometry.now =
-        omega (arith, c.loop-zone-test.true, c.zones-zone-end.ensures.value) in
+    omega (arith, c.loop-zone-test.true, c.zones-zone-end.ensures.value) in
     way_next c.requires.told c.loop-zone.invariant.padded
     (need_is named (g.D.ZonedDisk.view c.args.disk.now) pointers z true c.requires.told c.requires.pointers seq low
     (cut_by c.args.geometry.now named z (slice_index pointers z) (slice_index c.loop-zone.pointers z) seq
@@ -34,7 +34,7 @@ returns-in_err-pointers-clause-ascending g c =
     let pointers = c.args.pointers.now in
     let seq : c.args.geometry.now.conv ≤ z = omega (arith, c.loop-zone.auto.zone, c.conv-zone.ensures.value) in
     let low : z < zone_count c.args.geometry.now =
-        omega (arith, c.loop-zone-test.true, c.zones-zone-end.ensures.value) in
+    omega (arith, c.loop-zone-test.true, c.zones-zone-end.ensures.value) in
     ascending_next c.requires.told c.loop-zone.invariant.padded
     (need_is named (g.D.ZonedDisk.view c.args.disk.now) pointers z true c.requires.told c.requires.pointers seq low
     (cut_by c.args.geometry.now named z (slice_index pointers z) (slice_index c.loop-zone.pointers z) seq
@@ -54,12 +54,12 @@ loop-zone-preserved g c =
     let is = before.rounded.later z (omega arith) in
     let skipped = λ (none : is_cut shape named z (slice_index pointers z) ≡ false).
     padded_past c.requires.told before.padded
-        (need_is named (view c.args.disk.now) pointers z false c.requires.told c.requires.pointers seq low none) in
+    (need_is named (view c.args.disk.now) pointers z false c.requires.told c.requires.pointers seq low none) in
     let kept = λ (none : is_cut shape named z (slice_index pointers z) ≡ false). rounded_skip before.rounded none in
     elim c.if-named-i.branch [
       | then-named-i+then-pointer-ne0+in_ok-pointers w ↦
           let cut = cut_by shape named z (slice_index pointers z)
-              (slice_index c.loop-zone.pointers z) seq is w.if-named-i.true w.if-pointer-ne0.true in
+          (slice_index c.loop-zone.pointers z) seq is w.if-named-i.true w.if-pointer-ne0.true in
           record {
             padded = subst (λ d. HasPaddedTo named (z + 1) (view c.args.disk.now) (view d)) (sym w.disk-is)
                 (padded_next c.requires.told before.padded
@@ -67,8 +67,8 @@ loop-zone-preserved g c =
                 w.pad_zone.ensures.call w.in_ok-pointers.ensures.ok);
             rounded = subst (AreRoundedUp shape named (z + 1) pointers) (sym w.pointers-is)
                 (rounded_more _ before.rounded
-                    (let same = c.loop-zone.auto.pointers in let size = c.requires.count in
-                    omega (arith, before.rounded.count, size, low)) cut
+                (let same = c.loop-zone.auto.pointers in let size = c.requires.count in
+                omega (arith, before.rounded.count, size, low)) cut
                 (w.in_ok-pointers.ensures.value ∙ ap block_end is));
           }
       | else-named-i w ↦
