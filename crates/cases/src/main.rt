@@ -1,7 +1,7 @@
 //! Runs the cases of the texts that are named, one after the other: `cases TEXT..`.
 //!
-//! It tells each case that failed, and last how many were run and how many of them failed; the exit status
-//! is 1 where one failed, or a text can't be read.
+//! It tells each case that failed, and last how many were run and how many of them failed; the exit
+//! status is 1 where one failed, or a text can't be read.
 #![tactic(auto)]
 
 use anyhow::{Context, Result};

@@ -4,7 +4,7 @@ use crate::asks::{expect, kept_copy};
 use crate::builds::change;
 use crate::fault::Broken;
 use crate::places::copy;
-use crate::reading::{Case, Line, parse};
+use crate::reading::{Case, CaseLine, parse_cases};
 use crate::runs::{Orders, Told, administer, replay};
 use crate::steps::{Step, Stop};
 use crate::stops::stopped;
@@ -93,7 +93,7 @@ impl Bench {
         text: &str,
         tally: &mut Tally,
     ) -> Result<(), AllocError> {
-        let cases = match parse(alloc, text) {
+        let cases = match parse_cases(alloc, text) {
             Ok(cases) => cases,
             Err(fault) => {
                 let (line, why) = (fault.line, fault.why);
@@ -115,7 +115,7 @@ impl Bench {
         Ok(())
     }
 
-    fn run_case(&mut self, alloc: Global, lines: Vec<Line>) -> Result<(), Failure> {
+    fn run_case(&mut self, alloc: Global, lines: Vec<CaseLine>) -> Result<(), Failure> {
         self.orders = Orders::none(alloc);
         self.told = Told::nothing(alloc);
         self.aside = None;
@@ -123,7 +123,7 @@ impl Bench {
             Ok(disk) => disk,
             Err(broken) => return Err(Failure { number: 0, broken }),
         };
-        for Line { number, step } in lines {
+        for CaseLine { number, step } in lines {
             disk = match self.take_step(alloc, disk, step) {
                 Ok(disk) => disk,
                 Err(broken) => return Err(Failure { number, broken }),

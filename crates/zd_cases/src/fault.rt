@@ -41,7 +41,7 @@ impl<T: Drop> From<AllocFailed<T>> for Unread {
 
 /// A text that can't be read.
 #[derive(Clone, Copy, Debug, PartialEq, Eq)]
-pub struct ReadFault {
+pub struct TextFault {
     /// The line, counted from 1.
     pub line: u32,
     /// What is wrong with it.

@@ -51,7 +51,7 @@ pub fn same_lines(alloc: Global, wanted: &str, output: &[u8]) -> Result<(), Brok
     }
 }
 
-/// The status that an ending line names; that of a report which couldn't be written where there is none.
+/// The status that an ending line names; where there is none, that of a report that wasn't written.
 pub fn ending_status(text: &str) -> u8 {
     let mut status = 6;
     for line in text.split(';') {

@@ -1,6 +1,6 @@
 //! Cases read from their text.
 
-use crate::fault::{ReadFault, Unread};
+use crate::fault::{TextFault, Unread};
 use crate::steps::{Ask, Build, Count, Order, Step, Stop};
 use crate::words::{
     byte, call_count, choice_words, failing, geometry_of, hexadecimal, identifier, long,
@@ -11,7 +11,7 @@ use zd_base::ZoneNo;
 
 /// A line of a case: where it stands in its text, counted from 1, and what it asks for.
 #[derive(Drop)]
-pub struct Line {
+pub struct CaseLine {
     /// Its number.
     pub number: u32,
     /// What it asks for.
@@ -24,7 +24,7 @@ pub struct Case {
     /// The rest of the line with which it begins.
     pub name: String,
     /// The lines after that one.
-    pub lines: Vec<Line>,
+    pub lines: Vec<CaseLine>,
 }
 
 fn read_build(alloc: Global, word: &str, fields: &[&str]) -> Result<Option<Build>, Unread> {
@@ -134,7 +134,8 @@ fn read_step(alloc: Global, word: &str, rest: &str) -> Result<Step, Unread> {
     read_other(alloc, word, rest, &fields)
 }
 
-/// The lines for which `refused WHY` stands: a read is refused so, after one flush, and changes nothing.
+/// The lines for which `refused WHY` stands: a read is refused so, after one flush, and nothing
+/// changes.
 fn refusal(alloc: Global, why: &str) -> Result<[Step; 4], Unread> {
     let once = Count {
         opened: false,
@@ -157,11 +158,11 @@ fn read_into(
 ) -> Result<(), Unread> {
     if word != "refused" {
         let step = read_step(alloc, word, rest)?;
-        case.lines.push(Line { number, step })?;
+        case.lines.push(CaseLine { number, step })?;
         return Ok(());
     }
     for step in refusal(alloc, rest)? {
-        case.lines.push(Line { number, step })?;
+        case.lines.push(CaseLine { number, step })?;
     }
     Ok(())
 }
@@ -184,13 +185,13 @@ fn read_line(alloc: Global, cases: &mut Vec<Case>, number: u32, line: &str) -> R
 }
 
 /// The cases of a text; else its first line that is wrong.
-pub fn parse(alloc: Global, text: &str) -> Result<Vec<Case>, ReadFault> {
+pub fn parse_cases(alloc: Global, text: &str) -> Result<Vec<Case>, TextFault> {
     let mut cases = Vec::new(alloc);
     let mut number = 0u32;
     for line in text.lines() {
         number = number.saturating_add(1);
         if let Err(why) = read_line(alloc, &mut cases, number, line) {
-            return Err(ReadFault { line: number, why });
+            return Err(TextFault { line: number, why });
         }
     }
     Ok(cases)

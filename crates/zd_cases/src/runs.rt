@@ -46,8 +46,8 @@ impl Orders {
     }
 }
 
-/// What a run told: its output and status, how many writing calls the disk had had before, and how many
-/// writing and reading calls the run made.
+/// What a run told: its output and status, how many writing calls the disk had had before, and how
+/// many writing and reading calls the run made.
 #[derive(Drop)]
 pub struct Told {
     /// What it printed.

@@ -128,8 +128,8 @@ fn is_same_block(
     Ok(bytes == read_sectors(alloc, disk, other, 8 * own, 8)?)
 }
 
-/// Asks that both super blocks are good, of this generation and alike but for their places, and that
-/// the other used blocks of both sets are the same.
+/// Asks that both super blocks are good, of this generation and alike but for their places, and
+/// that the other used blocks of both sets are the same.
 pub fn expect_equal(alloc: Global, disk: &mut MemDisk, generation: u64) -> Result<(), Broken> {
     let (geometry, head, second) = first_set(alloc, disk)?;
     if !head.layout.fits(&geometry) {

@@ -8,7 +8,8 @@ use std::alloc::Global;
 use zd_memdisk::MemDisk;
 use zd_open::open;
 
-/// How many writing and reading calls opening takes, over the disk as it was when the last run began.
+/// How many writing and reading calls opening takes, over the disk as it was when the last run
+/// began.
 pub fn opening_calls(alloc: Global, disk: &MemDisk, told: &Told) -> Result<(u64, u64), Broken> {
     let mut image = copy_at(alloc, disk, told.before)?;
     match open(alloc, &mut image) {
