@@ -6,8 +6,8 @@ use Rattle.zd_base.specs.declared.layout.Layout.{Layout}
 use Rattle.zd_model.specs.Image.{Image}
 use Rattle.zd_format.specs.Fresh.{IsFresh, IsFormatted, IsUnfit}
 use Rattle.zd_disk.proofs.ToldLaws.{Some-same}
-use Rattle.zd_tell.specs.Stages.{DecidesAt, Stage, order_of}
-use Rattle.zd_tell.specs.Stages.Stage.{Words, Script, Opening, Run}
+use Rattle.zd_tell.specs.Stages.{DecidesAt, RunStage, stage_order}
+use Rattle.zd_tell.specs.Stages.RunStage.{Words, Script, Opening, Run}
 use Rattle.zd_tell.specs.Telling.{HasStatus, TellsMessage}
 use Rattle.zd_tell.proofs.StageLaws.{causes_exclude}
 use Rattle.zd_tell.proofs.TellLaws.{fixed_told, status_told}
@@ -44,13 +44,13 @@ cause_of words reserved volume told Device asks ends = (reserved, volume, asks, 
 cause_of words reserved volume told Memory asks ends = (reserved, volume, asks, ends)
 cause_of words reserved volume told Unfit asks ends = (reserved, volume, asks, ends)
 
-earlier_of : (words : List (List ℕ)) → IsAdminCommand words → (s : Stage) → order_of s < 3 → AdminPassed words s
+earlier_of : (words : List (List ℕ)) → IsAdminCommand words → (s : RunStage) → stage_order s < 3 → AdminPassed words s
 earlier_of words right Words early = right
 earlier_of words right Script early = tt
 earlier_of words right Opening early = tt
 earlier_of words right Run early = absurd (omega (arith, early))
 
-none_earlier : (words : List (List ℕ)) (s : Stage) → order_of s < 0 → AdminPassed words s
+none_earlier : (words : List (List ℕ)) (s : RunStage) → stage_order s < 0 → AdminPassed words s
 none_earlier words s early = absurd (omega (arith, early))
 
 no_memory : Memory ≡ Usage → ⊥
@@ -163,7 +163,7 @@ asked_at words told Device other cause = cause
 asked_at words told Memory other cause = cause
 asked_at words told Unfit other cause = cause
 
-stage_decides : (words : List (List ℕ)) (told : Option Shape) (stage : Stage) → DecidesAt
+stage_decides : (words : List (List ℕ)) (told : Option Shape) (stage : RunStage) → DecidesAt
     (admin_course words told) IsAdminDecided stage
 stage_decides words told Words = record {
   passed = λ o d is cause right. usage_at words told o is cause right;

@@ -4,8 +4,8 @@ use Rattle.zd_base.specs.Geometry.{Shape}
 use Rattle.zd_base.specs.Layout.{formatted}
 use Rattle.zd_model.specs.Image.{Image}
 use Rattle.zd_format.specs.Fresh.{IsFormatted, IsFresh, IsUnfit}
-use Rattle.zd_tell.specs.Stages.{CausesExclude, Course, EndsIn, MayEnd, Stage}
-use Rattle.zd_tell.specs.Stages.Stage.{Words, Run}
+use Rattle.zd_tell.specs.Stages.{CausesExclude, Course, EndsIn, MayEnd, RunStage}
+use Rattle.zd_tell.specs.Stages.RunStage.{Words, Run}
 use Rattle.zd_tell.specs.Telling.{TellsMessage}
 use Rattle.zd_admin.specs.Words.{AsksFormat, IsAdminCommand}
 use Rattle.zd_admin.specs.Output.{IsFixedOutput, admin_status, admin_telling}
@@ -24,13 +24,13 @@ FormatEnds reserved told Device = Unit {0}
 FormatEnds reserved told Memory = Unit {0}
 
 -- in which stages a run may end so: its words are no command, or the disk is formatted
-abbrev pub AdminComes : Stage → Outcome → Type 0
+abbrev pub AdminComes : RunStage → Outcome → Type 0
 AdminComes Words outcome = outcome ≡ Usage
 AdminComes Run outcome = outcome ≡ Usage → ⊥
 AdminComes stage outcome = ⊥
 
 -- what holds where a stage was passed: the words come first, and formatting is the last
-abbrev pub AdminPassed : List (List ℕ) → Stage → Type 0
+abbrev pub AdminPassed : List (List ℕ) → RunStage → Type 0
 AdminPassed words Words = IsAdminCommand words
 AdminPassed words Run = ⊥
 AdminPassed words stage = Unit {0}
@@ -59,14 +59,14 @@ OneAdminOutcome = (words : List (List ℕ)) (told : Option Shape) →
     CausesExclude (admin_course words told) IsAdminDecided
 
 -- the statuses that a run can have that ends in this stage
-abbrev pub AdminMayEnd : Stage → ℕ → Type 0
+abbrev pub AdminMayEnd : RunStage → ℕ → Type 0
 AdminMayEnd stage status = MayEnd AdminComes admin_status stage status
 
 -- a run ended in a stage with an outcome, whose cause holds, and told of it
 pub record AdminReports
     (words : List (List ℕ)) (told : Option Shape) (status : ℕ)
     (held after : Option (List ℕ)) (faults now : ℕ) : Type 0 where
-  pub stage : Stage
+  pub stage : RunStage
   pub outcome : Outcome
   pub ends : EndsIn (admin_course words told) stage outcome
   pub statuses : AdminMayEnd stage status

@@ -7,8 +7,8 @@ use Rattle.zd_model.specs.declared.texts.Outcome.{Outcome}
 use Rattle.zd_model.specs.declared.texts.Outcome.TheVariants as outcomes
 use Rattle.zd_model.specs.History.{HistoryEntry}
 use Rattle.zd_report.specs.Fixed.{IsFixedLine}
-use Rattle.zd_tell.specs.Stages.{Stage, order_of}
-use Rattle.zd_tell.specs.Stages.Stage.{Words, Script, Opening, Run}
+use Rattle.zd_tell.specs.Stages.{RunStage, stage_order}
+use Rattle.zd_tell.specs.Stages.RunStage.{Words, Script, Opening, Run}
 use Rattle.zd_tell.specs.Telling.{HasStatus, TellsMessage}
 use Rattle.zd_tell.proofs.StageLaws.{told_may_end}
 use Rattle.zd_tell.proofs.TellLaws.{own_status}
@@ -85,27 +85,27 @@ pub told_device : {status : ℕ} (o : Outcome) → HasStatus (outcome_status o) 
 told_device o is four = device_by o (own_status is (λ e. omega (arith, e, four)) (λ e. omega (arith, e, four)) ∙ four)
 
 -- in which stages all may be done, and the disk may have failed
-pub done_at : (stage : Stage) → ReplayComes stage all_done → stage ≡ Run
+pub done_at : (stage : RunStage) → ReplayComes stage all_done → stage ≡ Run
 done_at Words is = let f = ap outcome_status is in absurd (omega (arith, f))
 done_at Script none = absurd none
 done_at Opening none = absurd none
 done_at Run is = refl
 
-pub device_at : (stage : Stage) → ReplayComes stage no_device → stage ≡ Opening
+pub device_at : (stage : RunStage) → ReplayComes stage no_device → stage ≡ Opening
 device_at Words is = let f = ap outcome_status is in absurd (omega (arith, f))
 device_at Script none = absurd none
 device_at Opening is = refl
 device_at Run none = absurd none
 
-pub source_at : (stage : Stage) → ReplayComes stage outcomes.Source → stage ≡ Script
+pub source_at : (stage : RunStage) → ReplayComes stage outcomes.Source → stage ≡ Script
 source_at Words is = let f = ap outcome_status is in absurd (omega (arith, f))
 source_at Script is = refl
 source_at Opening none = absurd none
 source_at Run none = absurd none
 
 -- want of memory for the text may come in a stage, but for the first, whose line is fixed
-pub may_want : (stage : Stage) (history : List HistoryEntry) (outcome : Outcome) →
-    (order_of stage < 1 → history ≡ []) → ReplayComes stage outcome
+pub may_want : (stage : RunStage) (history : List HistoryEntry) (outcome : Outcome) →
+    (stage_order stage < 1 → history ≡ []) → ReplayComes stage outcome
     → (IsFixedRun history outcome → ⊥) → ReplayComes stage no_memory
 may_want Words history outcome none is free = absurd (free (none (omega arith), subst IsFixedLine (sym is) tt))
 may_want Script history outcome none is free = tt
@@ -113,9 +113,9 @@ may_want Opening history outcome none is free = tt
 may_want Run history outcome none is free = tt
 
 -- the status of a run that ended in a stage and told of it
-pub may_end : {status faults now : ℕ} {held after : Option (List ℕ)} (stage : Stage)
+pub may_end : {status faults now : ℕ} {held after : Option (List ℕ)} (stage : RunStage)
     (history : List HistoryEntry) (outcome : Outcome)
-    → (order_of stage < 1 → history ≡ []) → ReplayComes stage outcome
+    → (stage_order stage < 1 → history ≡ []) → ReplayComes stage outcome
     → TellsMessage (replay_telling history outcome) (IsFixedRun history outcome) status held after faults now
     → ReplayMayEnd stage status
 may_end {status} stage history outcome none comes t =
@@ -184,7 +184,7 @@ not_one : {status : ℕ} → status ≡ 1 → (status ≡ 0) ⊎ ((status ≡ 3)
 not_one one e = grind arith
 
 -- a run that ended before opening has none of these statuses
-pub early_other : {status : ℕ} (stage : Stage) → order_of stage < 2 → ReplayMayEnd stage status
+pub early_other : {status : ℕ} (stage : RunStage) → stage_order stage < 2 → ReplayMayEnd stage status
     → (status ≡ 0) ⊎ ((status ≡ 3) ⊎ ((status ≡ 4) ⊎ (status ≡ 6))) → ⊥
 early_other Words early m = not_one (words_status m)
 early_other Script early m = apart (script_status m.0 m.1 m.2)
@@ -195,14 +195,14 @@ early : {status : ℕ} → (status ≡ 1) ⊎ (status ≡ 2) ⊎ (status ≡ 5) 
     → (status ≡ 0) ⊎ ((status ≡ 3) ⊎ ((status ≡ 4) ⊎ ((status ≡ 6) ⊎ (status ≡ 7)))) → ⊥
 early e s = grind arith
 
-late : {status : ℕ} (stage : Stage) → 2 ≤ order_of stage → ReplayMayEnd stage status
+late : {status : ℕ} (stage : RunStage) → 2 ≤ stage_order stage → ReplayMayEnd stage status
     → (status ≡ 0) ⊎ ((status ≡ 3) ⊎ ((status ≡ 4) ⊎ ((status ≡ 6) ⊎ (status ≡ 7))))
 late Words past m = absurd (omega (arith, past))
 late Script past m = absurd (omega (arith, past))
 late Opening past m = (let s = opening_status m.0 m.1 m.2 in grind (arith, s))
 late Run past m = (let s = run_status m.0 m.1 m.2 in grind (arith, s))
 
-before_run : {status : ℕ} (stage : Stage) → order_of stage < 3 → ReplayMayEnd stage status → (status ≡ 0) ⊎
+before_run : {status : ℕ} (stage : RunStage) → stage_order stage < 3 → ReplayMayEnd stage status → (status ≡ 0) ⊎
     (status ≡ 6) → ⊥
 before_run Words less m e = not_one (words_status m) (elim e [ inl z ↦ inl z | inr s ↦ inr (inr (inr s)) ])
 before_run Script less m e = apart (script_status m.0 m.1 m.2) (elim e [ inl z ↦ inl z | inr s ↦ inr (inr (inr s)) ])
@@ -224,7 +224,7 @@ statuses_tell status = record {
 }
 
 -- a status that tells that a run came to its last stage is none of a run that ended before
-pub not_come : {status : ℕ} (stage : Stage) → order_of stage < 3 → ReplayMayEnd stage status
+pub not_come : {status : ℕ} (stage : RunStage) → stage_order stage < 3 → ReplayMayEnd stage status
     → ReplayCameTo Run status → ⊥
 not_come stage less m come = let most = come stage m in omega arith
 

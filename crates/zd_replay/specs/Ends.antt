@@ -19,8 +19,8 @@ use Rattle.zd_model.specs.declared.texts.Outcome.TheVariants as outcomes
 use Rattle.zd_report.specs.Fixed.{IsFixedLine}
 use Rattle.zd_script.specs.declared.fault.ScriptFault.{ScriptFault}
 use Rattle.zd_script.specs.declared.fault.ScriptFault.TheVariants as scripts
-use Rattle.zd_tell.specs.Stages.{CameTo, CausesExclude, Course, EndedBefore, EndsIn, MayEnd, Stage, order_of}
-use Rattle.zd_tell.specs.Stages.Stage.{Words, Script, Opening, Run}
+use Rattle.zd_tell.specs.Stages.{CameTo, CausesExclude, Course, EndedBefore, EndsIn, MayEnd, RunStage, stage_order}
+use Rattle.zd_tell.specs.Stages.RunStage.{Words, Script, Opening, Run}
 use Rattle.zd_tell.specs.Telling.{Telling}
 use Rattle.zd_replay.specs.Reads.{IsScriptOfReads, IsOtherScript}
 use Rattle.zd_replay.specs.Words.{is_command}
@@ -69,14 +69,14 @@ EndsRun (outcomes.Ended endings.Ok) = Unit {0}
 EndsRun (outcomes.Ended (endings.Stopped whys.Memory)) = Unit {0}
 EndsRun outcome = ⊥
 
-abbrev pub ReplayComes : Stage → Outcome → Type 0
+abbrev pub ReplayComes : RunStage → Outcome → Type 0
 ReplayComes Words outcome = outcome ≡ outcomes.Usage
 ReplayComes Script outcome = EndsScript outcome
 ReplayComes Opening outcome = EndsOpening outcome
 ReplayComes Run outcome = EndsRun outcome
 
 -- what holds where a stage was passed, as far as the object tells that it is about; the run is the last
-abbrev pub ReplayPassed : List (List ℕ) → Option (List ℕ) → Option Image → Stage → Type 0
+abbrev pub ReplayPassed : List (List ℕ) → Option (List ℕ) → Option Image → RunStage → Type 0
 ReplayPassed words left zones Words = IsReplayCommand words
 ReplayPassed words left zones Script = WhereTold left IsRunnable
 ReplayPassed words left zones Opening = WhereTold zones WellFormed
@@ -103,7 +103,7 @@ replay_course words left zones = record {
 
 -- such a run ends so before its disk is opened, whatever the disk tells
 abbrev pub EndsUnread : List (List ℕ) → Option (List ℕ) → Outcome → Type 0
-EndsUnread words left outcome = (stage : Stage) × (order_of stage < order_of Opening)
+EndsUnread words left outcome = (stage : RunStage) × (stage_order stage < stage_order Opening)
     × ((zones : Option Image) → EndsIn (replay_course words left zones) stage outcome)
 
 -- the outcomes that words, script and image decide, and no count of faults and no memory
@@ -116,13 +116,13 @@ IsReplayDecided (outcomes.Ended endings.Ok) = Unit {0}
 IsReplayDecided outcome = ⊥
 
 -- what decides the stages up to this one is told
-abbrev pub AreToldTo : Stage → Option (List ℕ) → Option Image → Type 0
+abbrev pub AreToldTo : RunStage → Option (List ℕ) → Option Image → Type 0
 AreToldTo Words left zones = Unit {0}
 AreToldTo Script left zones = IsSome left
 AreToldTo stage left zones = IsSome left × IsSome zones
 
 -- the objects that the stages up to this one call didn't fail
-abbrev pub NoneFailedTo : Stage → (source disk sink : Type 0) → Type 0
+abbrev pub NoneFailedTo : RunStage → (source disk sink : Type 0) → Type 0
 NoneFailedTo Words source disk sink = Unit {0}
 NoneFailedTo Script source disk sink = source
 NoneFailedTo Opening source disk sink = source × disk
@@ -144,13 +144,13 @@ IsFixedRun history outcome = (history ≡ []) × IsFixedLine outcome
 
 -- a run that ends in this stage may have this status; the status tells that a run came to this stage; it tells
 -- that it ended before
-abbrev pub ReplayMayEnd : Stage → ℕ → Type 0
+abbrev pub ReplayMayEnd : RunStage → ℕ → Type 0
 ReplayMayEnd stage status = MayEnd ReplayComes outcome_status stage status
 
-abbrev pub ReplayCameTo : Stage → ℕ → Type 0
+abbrev pub ReplayCameTo : RunStage → ℕ → Type 0
 ReplayCameTo stage status = CameTo ReplayComes outcome_status stage status
 
-abbrev pub ReplayEndedBefore : Stage → ℕ → Type 0
+abbrev pub ReplayEndedBefore : RunStage → ℕ → Type 0
 ReplayEndedBefore stage status = EndedBefore ReplayComes outcome_status stage status
 
 -- how a run ends whose disk can't be opened
