@@ -18,8 +18,6 @@ mod image_file;
 #[cfg(test)]
 mod opening;
 #[cfg(test)]
-mod padding;
-#[cfg(test)]
 mod reads;
 #[cfg(test)]
 mod refusals;

@@ -7,7 +7,6 @@ use std::process::Abort;
 use std::test::Fail;
 use zd_base::Status;
 use zd_disk::ZonedDisk;
-use zd_memdisk::MemDisk;
 use zd_ports::{MemSink, MemSource, Sink, Source};
 use zd_replay::replay_alone;
 
@@ -77,20 +76,5 @@ pub fn expect<D: ZonedDisk>(
     let output = lines(rt.alloc(), output)?;
     assert_eq!(rt; sink.held(), output.as_slice(), "{script}");
     assert_eq!(rt; ended, Status(status), "{script}");
-    Ok(disk)
-}
-
-/// Asserts it of a run in which all is done, and how many writing calls the run makes.
-pub fn expect_calls(
-    rt: &(impl Abort + AllocGlobal),
-    disk: MemDisk,
-    script: &str,
-    output: &str,
-    calls: u64,
-) -> Result<MemDisk, Fail> {
-    let before = disk.calls();
-    let disk = expect(rt, disk, script, output, 0)?;
-    let made = disk.calls().checked_sub(before);
-    assert_eq!(rt; made, Some(calls), "writing calls of {script}");
     Ok(disk)
 }
