@@ -1,0 +1,9 @@
+pub mod Phases
+pub mod Sets
+pub mod LeftImages
+pub mod Jobs
+pub mod Uses
+pub mod FaultCounts
+pub mod Volumes
+pub mod Starts
+pub mod Commits
