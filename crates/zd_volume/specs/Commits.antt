@@ -89,12 +89,15 @@ pub record Advances (from to : PlainVolume) : Type 0 where
   pub phase : IsPhaseAfter from.dirty from.phase to.phase
   pub rest : to ≡ after_call from to.phase (next_count from.since) from.stopped
 
--- The last call was made. Where nothing was dirty it was the only one (`alone`), and else the
--- generation is one greater.
+-- the next call is the last: the only one where nothing is dirty (`alone`), or the ninth phase's
+abbrev pub IsLastCall : Bool → Phase → List Bool → Type 0
+IsLastCall true phase dirty = (phase ≡ Idle) × (dirty_from dirty 1 ≡ 0)
+IsLastCall false phase dirty = phase ≡ InPlaceSuperFlush
+
+-- The last call was made. Where it wasn't the only one, the generation is one greater.
 pub record EndsCommit (from to : PlainVolume) (flushes : List Piece) : Type 0 where
   pub alone : Bool
-  pub last : if alone then (from.phase ≡ Idle) × (dirty_from from.dirty 1 ≡ 0)
-      else from.phase ≡ InPlaceSuperFlush
+  pub last : IsLastCall alone from.phase from.dirty
   pub limbo : to.division.zones ≡ map after_limbo from.division.zones
   pub conv : to.division.conv ≡ from.division.conv
   pub order : to.division.order ≡ from.division.order

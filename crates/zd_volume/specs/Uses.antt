@@ -72,6 +72,6 @@ pub record AreUsed (s : Sets) (job : Option Work) (d : Division) : Type 0 where
 -- each chunk has its class, and the numbers rise along the use order
 pub record AreCandidates (s : Sets) (pointers order : List ℕ) (standings : Standings) : Type 0 where
   pub count : length standings.classes ≡ s.head.layout.chunks
-  pub order : IsInOrder order standings.numbers
+  pub in_order : IsInOrder order standings.numbers
   pub each : (c : ℕ) → c < s.head.layout.chunks →
       class_of standings.classes c ≡ class_in s.geometry pointers (new_tables s) c

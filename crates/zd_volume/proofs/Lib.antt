@@ -1,0 +1,17 @@
+pub mod DataLaws
+pub mod PlaceLaws
+pub mod TakenImages
+pub mod Choices
+pub mod Images
+pub mod Reading
+pub mod Kept
+pub mod Still
+pub mod FaultEntries
+pub mod FaultStops
+pub mod JobLaws
+pub mod InPhases
+pub mod FailedCalls
+pub mod MetaWrites
+pub mod Flushes
+pub mod BlockWrites
+pub mod FlushPhases
