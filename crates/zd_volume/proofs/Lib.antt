@@ -15,3 +15,7 @@ pub mod MetaWrites
 pub mod Flushes
 pub mod BlockWrites
 pub mod FlushPhases
+pub mod CommitSteps
+pub mod CommitStarts
+pub mod CommitEnds
+pub mod Starting
