@@ -1,0 +1,10 @@
+//! A mounted volume: its values in memory, its disk, and the primitives that change both.
+#![tactic(auto)]
+
+mod commit;
+mod marks;
+mod state;
+mod volume;
+
+pub use volume::Volume;
+pub use zd_volume::{Committed, Flight, Job, JobKind, Phase, Place, Ran, Work, Wrote};

@@ -1,0 +1,55 @@
+//! Flags of blocks and zones.
+
+ghost use Rattle.std.specs.Prelude.{◌≡◌, ◌<◌, ◌^◌, ◌+◌, ◌≤◌, ◌++◌, length, replicate, if◌then◌else◌, false};
+ghost use Rattle.zd_model.specs.Plain.{Answer as answers};
+ghost use Rattle.zd_volume.specs.Commits.{flush_entries};
+ghost use Rattle.zd_volume.specs.Phases.{IsNextDirty};
+
+use zd_model::{Entry, Piece, Reply};
+use zd_plain::History;
+
+/// The first dirty block from this one on.
+pub(crate) fn next_dirty(dirty: &[bool], from: u32) -> Option<u32>
+    requires few { length dirty.now < 2 ^ 32 }
+    ensures { IsNextDirty dirty.now from result }
+{
+    let mut i = from;
+    while (i as usize) < dirty.len() {
+        if dirty[i as usize] {
+            return Some(i);
+        }
+        i += 1;
+    }
+    None
+}
+
+/// No flag is set any more.
+pub(crate) fn clear(flags: &mut [bool])
+    ensures { flags.new ≡ replicate (length flags.old) false }
+{
+    for i in 0..flags.len() {
+        flags[i] = false;
+    }
+}
+
+/// Enters the flushes of these pieces, which were done or failed.
+pub(crate) fn enter_flushes(history: &mut History, flushes: &[Piece], done: bool, at: u64)
+    requires spare { length flushes.now ≤ history.old.room }
+    ensures items { history.new.items ≡ history.old.items
+        ++ flush_entries (if done then answers.Done else answers.Fault) at flushes.now }
+    ensures spare { history.old.room ≤ history.new.room + length flushes.now }
+{
+    for i in 0..flushes.len() {
+        let piece = flushes[i];
+        let reply = if done { Reply::Done } else { Reply::Fault };
+        let entry = Entry {
+            caller: piece.caller,
+            request: piece.request,
+            piece: piece.piece,
+            what: piece.what,
+            reply,
+            at,
+        };
+        let _entered = history.push(entry);
+    }
+}
