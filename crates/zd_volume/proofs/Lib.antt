@@ -15,3 +15,4 @@ pub mod MetaWrites
 pub mod Flushes
 pub mod BlockWrites
 pub mod FlushPhases
+pub mod LegalEntries
