@@ -16,3 +16,4 @@ pub mod Flushes
 pub mod BlockWrites
 pub mod FlushPhases
 pub mod LegalEntries
+pub mod CallsLeft
