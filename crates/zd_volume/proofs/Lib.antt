@@ -17,3 +17,4 @@ pub mod BlockWrites
 pub mod FlushPhases
 pub mod LegalEntries
 pub mod CallsLeft
+pub mod EndUses
