@@ -18,3 +18,4 @@ pub mod FlushPhases
 pub mod LegalEntries
 pub mod CallsLeft
 pub mod EndUses
+pub mod FixedStart
