@@ -19,3 +19,7 @@ pub mod CommitSteps
 pub mod CommitStarts
 pub mod CommitEnds
 pub mod Starting
+pub mod LegalEntries
+pub mod CallsLeft
+pub mod EndUses
+pub mod FixedStart

@@ -1,7 +1,7 @@
 -- What zones are used for, which zones the committed map names, which blocks are dirty, and which
 -- chunks are candidates.
 use Rattle.std.specs.Prelude.{◌≡◌, ◌≢◌, ◌⊎◌, ◌↔◌, ℕ, ◌+◌, ◌-◌, ◌^◌, ◌<◌, ◌≤◌, Bool, true, false}
-use Rattle.std.specs.Prelude.{List, length, get_or, count_by, Option, ⊤}
+use Rattle.std.specs.Prelude.{List, length, get_or, count_by, Option, Some, None, ⊤}
 use Rattle.std.specs.List.{range_with_len}
 use Rattle.zd_base.specs.Geometry.{Shape, zone_count}
 use Rattle.zd_base.specs.Layout.{first_data_zone}
@@ -14,6 +14,7 @@ use Rattle.zd_volume.specs.declared.phase.Phase.{Phase}
 use Rattle.zd_volume.specs.declared.phase.Phase.TheVariants.{Idle, Log, LogFlush, LogSuper}
 use Rattle.zd_volume.specs.declared.phase.Phase.TheVariants.{LogSuperFlush, InPlace, InPlaceFlush}
 use Rattle.zd_volume.specs.declared.phase.Phase.TheVariants.{InPlaceSuper, InPlaceSuperFlush}
+use Rattle.zd_volume.specs.declared.work.JobKind.TheVariants.{Move}
 use Rattle.zd_volume.specs.declared.work.Work.{Work}
 use Rattle.zd_volume.specs.Jobs.{IsNamed, IsTarget, class_in}
 use Rattle.zd_volume.specs.Sets.{Sets, new_tables, old_tables, used}
@@ -75,3 +76,14 @@ pub record AreCandidates (s : Sets) (pointers order : List ℕ) (standings : Sta
   pub in_order : IsInOrder order standings.numbers
   pub each : (c : ℕ) → c < s.head.layout.chunks →
       class_of standings.classes c ≡ class_in s.geometry pointers (new_tables s) c
+
+-- a Move under way has taken this zone
+abbrev pub IsMoved : Option Work → ℕ → Type 0
+IsMoved None z = ⊥
+IsMoved (Some w) z = (w.job.kind ≡ Move) × (w.target ≡ Some z)
+
+-- a flag for each zone, made of the uses: whether it is held and no Move has taken it
+pub record IsNamedFlags (d : Division) (job : Option Work) (flags : List Bool) : Type 0 where
+  pub size : length flags ≡ length d.zones
+  pub each : (z : ℕ) → z < length d.zones →
+      (get_or flags z false ≡ true) ↔ ((use_at d.zones z ≡ Held) × (IsMoved job z → ⊥))
