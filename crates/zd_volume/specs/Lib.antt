@@ -7,3 +7,4 @@ pub mod FaultCounts
 pub mod Volumes
 pub mod Starts
 pub mod Commits
+pub mod Abandons
