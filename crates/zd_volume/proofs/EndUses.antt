@@ -107,16 +107,20 @@ target_named g old new Append e target z has is other = inl (sym has ∙ is)
 target_named g old new Merge e target z has is other = inr (sym has ∙ is)
 
 module _ (s : Sets) (pointers : List ℕ) where
-  -- a zone that a Move has taken is named by no entry
-  pub moved_unnamed : (job : Option Work) (z : ℕ) → IsJobOrNone s pointers job → IsMoved job z
-      → IsNamed (new_tables s) z → ⊥
-  moved_unnamed None z is moved named = moved
-  moved_unnamed (Some w) z is moved named =
+  -- a zone that a Move has taken is named by no entry, committed or not
+  pub moved_bare : (job : Option Work) (z : ℕ) → IsJobOrNone s pointers job → IsMoved job z
+      → (IsNamed (old_tables s) z → ⊥) × (IsNamed (new_tables s) z → ⊥)
+  moved_bare None z is moved = absurd moved
+  moved_bare (Some w) z is moved =
       let has = subst (λ (k : JobKind). HasTarget s.geometry (old_tables s) (new_tables s) k
       (entry_of (new_tables s) w.job.chunk) w.target) moved.0 is.target in
-      has.5 (subst (IsNamed (new_tables s)) (sym (Some-same has.0 z (sym has.1 ∙ moved.1))) named)
+      let same : z ≡ has.0 = sym (Some-same has.0 z (sym has.1 ∙ moved.1)) in (
+        (λ named. has.4 (subst (IsNamed (old_tables s)) same named)),
+        (λ named. has.5 (subst (IsNamed (new_tables s)) same named)),
+      )
 
-  target_is : (job : Option Work) (z : ℕ) → IsJobOrNone s pointers job → IsTarget job z → (IsMoved job z → ⊥)
+  -- another target is named
+  pub target_is : (job : Option Work) (z : ℕ) → IsJobOrNone s pointers job → IsTarget job z → (IsMoved job z → ⊥)
       → IsNamed (new_tables s) z
   target_is None z is target other = absurd target
   target_is (Some w) z is target other = (
@@ -137,7 +141,7 @@ module _ (s : Sets) (pointers : List ℕ) where
             | inl named ↦ named
             | inr target ↦ target_is job z is target held.1
           ]),
-      (λ named. (made.each z (inside z low)).1 (used.named z named, λ moved. moved_unnamed job z is moved named)),
+      (λ named. (made.each z (inside z low)).1 (used.named z named, λ moved. (moved_bare job z is moved).1 named)),
     );
   }
     where

@@ -23,3 +23,4 @@ pub mod LegalEntries
 pub mod CallsLeft
 pub mod EndUses
 pub mod FixedStart
+pub mod AbandonLaws

@@ -8,3 +8,4 @@ pub mod Volumes
 pub mod Starts
 pub mod Commits
 pub mod CommitCalls
+pub mod Abandons
