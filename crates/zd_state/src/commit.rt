@@ -1,11 +1,11 @@
 //! Commits, one call of the disk a step.
 
-ghost use Rattle.std.specs.Prelude.{◌≡◌, ◌+◌, ◌≤◌, ◌<◌, ◌⊎◌, None, Some, length};
-ghost use Rattle.zd_disk.specs.View.{HasFailed};
+ghost use Rattle.std.specs.Prelude.{◌≡◌, ◌+◌, ◌≤◌, ◌<◌, None, Some, length};
 ghost use Rattle.zd_state.specs.Seen.{SameSession};
-ghost use Rattle.zd_volume.specs.CommitCalls.{WritesBlock};
-ghost use Rattle.zd_volume.specs.Commits.{AreFlushes, CommitStep};
-ghost use Rattle.zd_volume.specs.Phases.{IsNextDirty, block_phase, after_block, first_zone};
+ghost use Rattle.zd_volume.specs.CommitCalls.{FlushesOnce, StopsByDevice, WritesBlock, WritesSuper};
+ghost use Rattle.zd_volume.specs.Commits.{AreFlushes, CommitStep, IsLastCall};
+ghost use Rattle.zd_volume.specs.Phases.{IsInnerFlush, after_block, after_flush, after_super};
+ghost use Rattle.zd_volume.specs.Phases.{block_phase, first_zone, super_phase};
 ghost use Rattle.zd_volume.specs.Sets.{second};
 ghost use Rattle.zd_volume.specs.Volumes.{sets_of};
 
@@ -13,7 +13,7 @@ use crate::volume::Volume;
 use zd_base::Why;
 use zd_disk::ZonedDisk;
 use zd_model::Piece;
-use zd_sets::write_block;
+use zd_sets::{write_block, write_super};
 use zd_volume::{Committed, Phase};
 
 /// The phase after a block, by the next dirty one.
@@ -28,6 +28,29 @@ fn block_after(in_place: bool, next: Option<u32>) -> Phase
     }
 }
 
+/// The phase after a super block.
+fn super_after(in_place: bool) -> Phase
+    ensures { result ≡ after_super in_place }
+{
+    if in_place {
+        Phase::InPlaceSuperFlush
+    } else {
+        Phase::LogSuperFlush
+    }
+}
+
+/// The phase after a flush inside a commit, by the first dirty block.
+fn flush_after(phase: Phase, next: Option<u32>) -> Phase
+    ensures { result ≡ after_flush phase next }
+{
+    match phase {
+        Phase::LogFlush => Phase::LogSuper,
+        Phase::LogSuperFlush => block_after(true, next),
+        Phase::InPlaceFlush => Phase::InPlaceSuper,
+        other => other,
+    }
+}
+
 impl<D: ZonedDisk> Volume<D> {
     /// Writes block `k` to set 1, or to set 0 in place.
     fn put_block(&mut self, in_place: bool, k: u32, flushes: &[Piece]) -> Committed
@@ -39,7 +62,7 @@ impl<D: ZonedDisk> Volume<D> {
         ensures call { WritesBlock self.old.plain (first_zone in_place (second (sets_of self.old.plain))) k
             (D.view self.old.disk) (D.view self.new.disk) }
         ensures same { SameSession (length flushes.now) self.old self.new }
-        ensures cause { (result ≡ Committed.More) ⊎ HasFailed (D.view self.old.disk) (D.view self.new.disk) }
+        ensures cause { StopsByDevice result (D.view self.old.disk) (D.view self.new.disk) }
     {
         let next = self.state.next_dirty(k + 1);
         let first = self.state.first_zone(in_place);
@@ -51,5 +74,69 @@ impl<D: ZonedDisk> Volume<D> {
         }
         self.state.advance(block_after(in_place, next));
         Committed::More
+    }
+
+    /// Writes the super block of set 1, or of set 0 in place, with the next generation.
+    fn put_super(&mut self, in_place: bool, flushes: &[Piece]) -> Committed
+        requires running { self.old.plain.stopped ≡ None }
+        requires phase { self.old.plain.phase ≡ super_phase in_place }
+        requires flushes { AreFlushes flushes.now }
+        requires spare { length flushes.now ≤ self.old.spare }
+        ensures step { CommitStep self.old.plain self.new.plain flushes.now result }
+        ensures call { WritesSuper self.old.plain (first_zone in_place (second (sets_of self.old.plain)))
+            (D.view self.old.disk) (D.view self.new.disk) }
+        ensures same { SameSession (length flushes.now) self.old self.new }
+        ensures cause { StopsByDevice result (D.view self.old.disk) (D.view self.new.disk) }
+    {
+        let first = self.state.first_zone(in_place);
+        let head = self.state.next_head(in_place);
+        let written = write_super(&mut self.disk, first, &head);
+        if written.is_err() {
+            self.state.fail(flushes);
+            return Committed::Stopped(Why::Device);
+        }
+        self.state.advance(super_after(in_place));
+        Committed::More
+    }
+
+    /// Makes a flush inside a commit.
+    fn flush_inside(&mut self, flushes: &[Piece]) -> Committed
+        requires running { self.old.plain.stopped ≡ None }
+        requires phase { IsInnerFlush self.old.plain.phase }
+        requires flushes { AreFlushes flushes.now }
+        requires spare { length flushes.now ≤ self.old.spare }
+        ensures step { CommitStep self.old.plain self.new.plain flushes.now result }
+        ensures call { FlushesOnce (D.view self.old.disk) (D.view self.new.disk) }
+        ensures same { SameSession (length flushes.now) self.old self.new }
+        ensures cause { StopsByDevice result (D.view self.old.disk) (D.view self.new.disk) }
+    {
+        let next = self.state.next_dirty(1);
+        let flushed = self.disk.flush();
+        if flushed.is_err() {
+            self.state.fail(flushes);
+            return Committed::Stopped(Why::Device);
+        }
+        self.state.advance(flush_after(self.state.phase(), next));
+        Committed::More
+    }
+
+    /// Makes the flush that ends a commit, or that is one alone.
+    fn flush_last(&mut self, alone: bool, flushes: &[Piece]) -> Committed
+        requires running { self.old.plain.stopped ≡ None }
+        requires last { IsLastCall alone self.old.plain.phase self.old.plain.dirty }
+        requires flushes { AreFlushes flushes.now }
+        requires spare { length flushes.now ≤ self.old.spare }
+        ensures step { CommitStep self.old.plain self.new.plain flushes.now result }
+        ensures call { FlushesOnce (D.view self.old.disk) (D.view self.new.disk) }
+        ensures same { SameSession (length flushes.now) self.old self.new }
+        ensures cause { StopsByDevice result (D.view self.old.disk) (D.view self.new.disk) }
+    {
+        let flushed = self.disk.flush();
+        if flushed.is_err() {
+            self.state.fail(flushes);
+            return Committed::Stopped(Why::Device);
+        }
+        self.state.end(alone, flushes);
+        Committed::Ended
     }
 }

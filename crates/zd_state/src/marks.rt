@@ -1,12 +1,16 @@
 //! Flags of blocks and zones.
 
-ghost use Rattle.std.specs.Prelude.{◌≡◌, ◌<◌, ◌^◌, ◌+◌, ◌≤◌, ◌++◌, length, replicate, if◌then◌else◌, false};
+ghost use Rattle.std.specs.Prelude.{◌≡◌, ◌<◌, ◌^◌, ◌+◌, ◌≤◌, ◌++◌, length, replicate, if◌then◌else◌, false, ◌↔◌, IsTrue};
+ghost use Rattle.zd_volume.specs.Uses.{IsMoved, IsNamedFlags};
 ghost use Rattle.zd_model.specs.Plain.{Answer as answers};
 ghost use Rattle.zd_volume.specs.Commits.{flush_entries};
 ghost use Rattle.zd_volume.specs.Phases.{IsNextDirty};
 
+use zd_alloc::{Alloc, ZoneUse};
+use zd_base::ZoneNo;
 use zd_model::{Entry, Piece, Reply};
 use zd_plain::History;
+use zd_volume::{JobKind, Work};
 
 /// The first dirty block from this one on.
 pub(crate) fn next_dirty(dirty: &[bool], from: u32) -> Option<u32>
@@ -29,6 +33,28 @@ pub(crate) fn clear(flags: &mut [bool])
 {
     for i in 0..flags.len() {
         flags[i] = false;
+    }
+}
+
+/// Whether a job, a Move, has taken this zone.
+fn is_moved(job: Option<Work>, zone: ZoneNo) -> bool
+    ensures { IsTrue result ↔ IsMoved job zone }
+{
+    match job {
+        Some(work) => work.job.kind == JobKind::Move && work.target == Some(zone),
+        None => false,
+    }
+}
+
+/// Flags the zones that the map names: those that are held and that no Move has taken.
+pub(crate) fn flag_named(named: &mut [bool], alloc: &Alloc, job: Option<Work>)
+    requires count { length named.old ≡ length alloc.now.zones }
+    requires few { length named.old < 2 ^ 32 }
+    ensures { IsNamedFlags alloc.now job named.new }
+{
+    for zone in 0..named.len() {
+        let number = ZoneNo(zone as u32);
+        named[zone] = alloc.state(number) == ZoneUse::Held && !is_moved(job, number);
     }
 }
 

@@ -1,9 +1,13 @@
 //! The values of a volume, without its disk.
 
-ghost use Rattle.std.specs.Prelude.{◌≡◌, ◌+◌, ◌*◌, ◌<◌, ◌≤◌, ◌^◌, length};
+ghost use Rattle.std.specs.Prelude.{◌≡◌, ◌+◌, ◌*◌, ◌<◌, ◌≤◌, ◌^◌, ◌-◌, length, replicate, false};
 ghost use Rattle.zd_sets.specs.Blocks.{blocks_of};
 ghost use Rattle.zd_disk.specs.Told.{next_count};
-ghost use Rattle.zd_volume.specs.Commits.{after_call, after_failed};
+ghost use Rattle.zd_model.specs.Plain.{Answer as answers};
+ghost use Rattle.zd_sets.specs.Equal.{head_at};
+ghost use Rattle.zd_sets.specs.Stages.{next_head};
+ghost use Rattle.zd_volume.specs.Commits.{EndsLimbo, after_call, after_end, after_failed, flush_entries};
+ghost use Rattle.zd_volume.specs.Uses.{IsNamedFlags};
 ghost use Rattle.zd_volume.specs.Phases.{IsNextDirty, first_zone};
 ghost use Rattle.zd_volume.specs.Sets.{second, used};
 ghost use Rattle.zd_volume.specs.Volumes.{sets_of};
@@ -129,5 +133,54 @@ impl VolumeState {
         self.since = self.since.saturating_add(1);
         self.stopped = Some(Why::Device);
         marks::enter_flushes(&mut self.history, flushes, false, self.since);
+    }
+
+    /// The phase.
+    pub(crate) fn phase(&self) -> Phase
+        ensures { result ≡ self.now.plain.phase }
+    {
+        self.phase
+    }
+
+    /// The head that the next commit writes, for set 1 or for set 0, which is written in place.
+    pub(crate) fn next_head(&self, in_place: bool) -> Super
+        requires { self.now.plain.head.generation < 2 ^ 64 - 1 }
+        ensures { result ≡ head_at self.now.plain.geometry
+            (first_zone in_place (second (sets_of self.now.plain))) (next_head self.now.plain.head) }
+    {
+        let first = self.first_zone(in_place);
+        let own = u64::from(first.0) * u64::from(self.tables.geometry().zone_blocks());
+        Super {
+            generation: self.head.generation + 1,
+            own,
+            ..self.head
+        }
+    }
+
+    /// The flush that ends a commit was made: alone, or the last of many.
+    pub(crate) fn end(&mut self, alone: bool, flushes: &[Piece])
+        requires spare { length flushes.now ≤ self.old.spare }
+        requires rises { alone ≡ false → self.old.plain.head.generation < 2 ^ 64 - 1 }
+        requires zones { length self.old.plain.named ≡ length self.old.plain.division.zones }
+        requires few { length self.old.plain.named < 2 ^ 32 }
+        ensures plain { self.new.plain ≡ after_end self.old.plain alone
+            (flush_entries answers.Done (next_count self.old.plain.since) flushes.now)
+            (replicate (length self.old.plain.dirty) false) self.new.plain.named self.new.plain.division
+            (next_count self.old.plain.since) }
+        ensures limbo { EndsLimbo self.old.plain.division self.new.plain.division }
+        ensures named { IsNamedFlags self.new.plain.division self.old.plain.job self.new.plain.named }
+        ensures spare { self.old.spare ≤ self.new.spare + length flushes.now }
+        ensures room { self.new.room ≡ self.old.room }
+    {
+        self.since = self.since.saturating_add(1);
+        self.committed = Snapshot::of(self.tables.blocks());
+        self.phase = Phase::Idle;
+        if !alone {
+            self.head.generation += 1;
+        }
+        marks::clear(&mut self.dirty);
+        self.alloc.end_limbo();
+        marks::flag_named(&mut self.named, &self.alloc, self.job);
+        marks::enter_flushes(&mut self.history, flushes, true, self.since);
     }
 }

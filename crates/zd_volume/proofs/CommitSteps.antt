@@ -54,7 +54,7 @@ after_flush_is InPlaceSuperFlush next dirty g is was = was
 
 module _ (v : PlainVolume) (opening d e : View) (runs : v.stopped ≡ None) (was : IsKeptVolume v opening d) where
   -- a metadata write that belongs to the phase, at the place where it is made
-  block_meta : (in_place : Bool) (k : ℕ) (next : Option ℕ) → v.phase ≡ block_phase in_place k
+  pub block_meta : (in_place : Bool) (k : ℕ) (next : Option ℕ) → v.phase ≡ block_phase in_place k
       → IsNextDirty v.dirty (k + 1) next
       → MetaWrite (sets_of v) v.phase (after_block in_place next)
         (first_zone in_place (second (sets_of v)) + k / v.geometry.zone_blocks) (8 * (k % v.geometry.zone_blocks))
@@ -67,7 +67,7 @@ module _ (v : PlainVolume) (opening d e : View) (runs : v.stopped ≡ None) (was
       (blocks_of v.fresh k 1)) (sym phase)
       (block_write (sets_of v) was.fixed.sets v.dirty was.fixed.flags k at in_place next is)
 
-  super_meta : (in_place : Bool) → v.phase ≡ super_phase in_place
+  pub super_meta : (in_place : Bool) → v.phase ≡ super_phase in_place
       → HasBlock (head_at v.geometry (first_zone in_place (second (sets_of v))) (next_head v.head))
       → MetaWrite (sets_of v) v.phase (after_super in_place) (first_zone in_place (second (sets_of v))) 0
         (block_of (head_at v.geometry (first_zone in_place (second (sets_of v))) (next_head v.head)))

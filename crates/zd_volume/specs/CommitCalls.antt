@@ -4,7 +4,7 @@ use Rattle.zd_base.specs.declared.numbers.Why.{Why}
 use Rattle.zd_model.specs.Image.{Same}
 use Rattle.zd_model.specs.Super.{block_of}
 use Rattle.zd_disk.specs.Steps.{WriteLeaves, WriteStep}
-use Rattle.zd_disk.specs.View.{Calls, OnlyReads, View}
+use Rattle.zd_disk.specs.View.{Calls, HasFailed, OnlyReads, View}
 use Rattle.zd_sets.specs.Blocks.{blocks_of}
 use Rattle.zd_sets.specs.Equal.{head_at}
 use Rattle.zd_sets.specs.Stages.{next_head}
@@ -55,3 +55,7 @@ MakesPhaseCall InPlaceSuperFlush v d e = FlushesOnce d e
 abbrev pub MakesCommitCall : Committed → PlainVolume → View → View → Type 0
 MakesCommitCall (Committed.Stopped Why.Generation) v d e = OnlyReads d e × (e.read_calls ≡ d.read_calls)
 MakesCommitCall result v d e = MakesPhaseCall v.phase v d e
+
+-- where a step stops the volume as a failure of the disk, the disk's count of faults rose
+abbrev pub StopsByDevice : Committed → View → View → Type 0
+StopsByDevice result d e = result ≡ Committed.Stopped Why.Device → HasFailed d e

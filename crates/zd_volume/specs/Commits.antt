@@ -99,13 +99,17 @@ abbrev pub IsLastCall : Bool → Phase → List Bool → Type 0
 IsLastCall true phase dirty = (phase ≡ Idle) × (dirty_from dirty 1 ≡ 0)
 IsLastCall false phase dirty = phase ≡ InPlaceSuperFlush
 
+-- limbo has ended, and all else of the zones is as it was
+pub record EndsLimbo (from to : Division) : Type 0 where
+  pub zones : to.zones ≡ map after_limbo from.zones
+  pub conv : to.conv ≡ from.conv
+  pub order : to.order ≡ from.order
+
 -- The last call was made. Where it wasn't the only one, the generation is one greater.
 pub record EndsCommit (from to : PlainVolume) (flushes : List Piece) : Type 0 where
   pub alone : Bool
   pub last : IsLastCall alone from.phase from.dirty
-  pub limbo : to.division.zones ≡ map after_limbo from.division.zones
-  pub conv : to.division.conv ≡ from.division.conv
-  pub order : to.division.order ≡ from.division.order
+  pub limbo : EndsLimbo from.division to.division
   pub rest : to ≡ after_end from alone
       (flush_entries answers.Done (next_count from.since) flushes)
       (replicate (length from.dirty) false) to.named to.division (next_count from.since)

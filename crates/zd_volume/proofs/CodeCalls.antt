@@ -1,0 +1,140 @@
+-- The calls of a commit as code makes them: what it keeps, and that it is a step of a commit.
+use Rattle.std.proofs.Common.{◌≡◌, ◌⊎◌, ℕ, ◌+◌, ◌-◌, ◌*◌, ◌/◌, ◌%◌, ◌^◌, ◌<◌, ◌≤◌, Bool, true, false, List, length, Option, Some, None, refl, sym, subst, arith}
+use Rattle.std.specs.List.{AllByRecursion}
+use Rattle.zd_model.specs.History.{IsLegal}
+use Rattle.zd_model.specs.Image.{Image, Same}
+use Rattle.zd_model.specs.Plain.Answer.{Done, Fault}
+use Rattle.zd_model.specs.Safe.{base_at}
+use Rattle.zd_model.specs.Super.{HasBlock, block_of}
+use Rattle.zd_model.specs.declared.requests.Piece.{Piece}
+use Rattle.zd_alloc.specs.Zones.{Division}
+use Rattle.zd_disk.specs.Steps.{Wrote, WriteStep}
+use Rattle.zd_disk.specs.Told.{next_count}
+use Rattle.zd_disk.specs.View.{HasFailed, IsDurable, Turns, View}
+use Rattle.zd_disk.proofs.ToldLaws.{Both-by}
+use Rattle.zd_sets.specs.Blocks.{blocks_of}
+use Rattle.zd_sets.specs.Equal.{head_at}
+use Rattle.zd_sets.specs.Stages.{next_head}
+use Rattle.zd_sets.specs.Writes.{WroteBlock}
+use Rattle.zd_volume.specs.CommitCalls.{FlushesOnce, WritesBlock, WritesSuper}
+use Rattle.zd_volume.specs.Commits.{after_call, after_end, after_failed, AreFlushes, flush_entries, IsPhaseAfter}
+use Rattle.zd_volume.specs.Phases.{after_block, after_flush, after_super, block_phase, first_zone, IsInnerFlush, IsNextDirty, super_phase}
+use Rattle.zd_volume.specs.Sets.{second}
+use Rattle.zd_volume.specs.Volumes.{IsKeptVolume, PlainVolume, sets_of}
+use Rattle.zd_volume.specs.declared.phase.Phase.{Phase}
+use Rattle.zd_volume.specs.declared.phase.Phase.TheVariants.{Idle, Log, LogFlush, LogSuper, LogSuperFlush, InPlace, InPlaceFlush, InPlaceSuper, InPlaceSuperFlush}
+use Rattle.zd_volume.proofs.CommitEnds.{EndsAs, IsAtEnd, kept_end}
+use Rattle.zd_volume.proofs.CommitSteps.{block_meta, kept_block, kept_flush, kept_super, super_meta}
+use Rattle.zd_volume.proofs.Flushes.{kept_flush_failed}
+use Rattle.zd_volume.proofs.InPhases.{by_next, next_more}
+use Rattle.zd_volume.proofs.LegalEntries.{done_entries, failed_entries, legal_flushes_done, legal_flushes_failed}
+use Rattle.zd_volume.proofs.MetaWrites.{kept_meta_failed}
+
+-- a block that was written is a write
+turns_wrote : (z k : ℕ) (bytes : List ℕ) (d e : View) → Turns (WroteBlock z k bytes) d e → Turns (Wrote z (8 * k) bytes) d e
+turns_wrote z k bytes d e turns = record {
+  reads = Both-by d.zones e.zones (WroteBlock z k bytes) (Wrote z (8 * k) bytes) (λ i j _ _ w. w.wrote) turns.reads;
+}
+
+-- the phase that comes next
+pub phase_after_block : (in_place : Bool) (k : ℕ) (next : Option ℕ) (dirty : List Bool) → IsNextDirty dirty (k + 1) next
+    → IsPhaseAfter dirty (block_phase in_place k) (after_block in_place next)
+phase_after_block true k next dirty is = (next, is, refl)
+phase_after_block false k next dirty is = (next, is, refl)
+
+pub phase_after_super : (in_place : Bool) (dirty : List Bool)
+    → IsPhaseAfter dirty (super_phase in_place) (after_super in_place)
+phase_after_super true dirty = refl
+phase_after_super false dirty = refl
+
+pub phase_after_flush : (p : Phase) (next : Option ℕ) (dirty : List Bool) → IsInnerFlush p → IsNextDirty dirty 1 next
+    → IsPhaseAfter dirty p (after_flush p next)
+phase_after_flush Idle next dirty f is = absurd f
+phase_after_flush (Log k) next dirty f is = absurd f
+phase_after_flush LogFlush next dirty f is = refl
+phase_after_flush LogSuper next dirty f is = absurd f
+phase_after_flush LogSuperFlush next dirty f is = (next, is, refl)
+phase_after_flush (InPlace k) next dirty f is = absurd f
+phase_after_flush InPlaceFlush next dirty f is = refl
+phase_after_flush InPlaceSuper next dirty f is = absurd f
+phase_after_flush InPlaceSuperFlush next dirty f is = absurd f
+
+module _ (v : PlainVolume) (opening d e : View) (runs : v.stopped ≡ None) (was : IsKeptVolume v opening d) where
+  legal_failed : (pieces : List Piece) → AreFlushes pieces → (r : Image) → d.zones ≡ Some r
+      → IsLegal (base_at opening.zones) v.history
+      → IsLegal (base_at opening.zones) (after_failed v pieces).history
+  legal_failed pieces all r t legal =
+      legal_flushes_failed (base_at opening.zones) v.since (next_count v.since) v.history
+      (flush_entries Fault (next_count v.since) pieces) legal was.counted.by_now (was.calm runs) (next_more v.since)
+      (failed_entries (next_count v.since) pieces all)
+
+  -- A BLOCK
+  module _ (in_place : Bool) (k : ℕ) (next : Option ℕ) (phase : v.phase ≡ block_phase in_place k)
+      (is : IsNextDirty v.dirty (k + 1) next)
+      (call : WritesBlock v (first_zone in_place (second (sets_of v))) k d e) where
+    pub block_made : Turns (WroteBlock (first_zone in_place (second (sets_of v)) + k / v.geometry.zone_blocks)
+        (k % v.geometry.zone_blocks) (blocks_of v.fresh k 1)) d e
+        → IsKeptVolume (after_call v (after_block in_place next) (next_count v.since) v.stopped) opening e
+    block_made turns =
+        kept_block v opening d e runs was in_place k next phase is call
+        (turns_wrote (first_zone in_place (second (sets_of v)) + k / v.geometry.zone_blocks)
+        (k % v.geometry.zone_blocks) (blocks_of v.fresh k 1) d e turns)
+
+    pub block_failed : (pieces : List Piece) → AreFlushes pieces → HasFailed d e
+        → Turns (λ i. WriteStep i (first_zone in_place (second (sets_of v)) + k / v.geometry.zone_blocks)
+          (8 * (k % v.geometry.zone_blocks)) (blocks_of v.fresh k 1) i) d e
+        → IsKeptVolume (after_failed v pieces) opening e
+    block_failed pieces all rose turns =
+        kept_meta_failed v opening d e runs was (after_block in_place next)
+        (first_zone in_place (second (sets_of v)) + k / v.geometry.zone_blocks) (8 * (k % v.geometry.zone_blocks))
+        (blocks_of v.fresh k 1) (block_meta v opening d e runs was in_place k next phase is) call
+        (flush_entries Fault (next_count v.since) pieces) rose turns (failed_entries (next_count v.since) pieces all)
+        (legal_failed pieces all)
+
+  -- A SUPER BLOCK
+  module _ (in_place : Bool) (phase : v.phase ≡ super_phase in_place)
+      (sizes : HasBlock (head_at v.geometry (first_zone in_place (second (sets_of v))) (next_head v.head)))
+      (call : WritesSuper v (first_zone in_place (second (sets_of v))) d e) where
+    pub super_made : Turns (WroteBlock (first_zone in_place (second (sets_of v))) 0
+        (block_of (head_at v.geometry (first_zone in_place (second (sets_of v))) (next_head v.head)))) d e
+        → IsKeptVolume (after_call v (after_super in_place) (next_count v.since) v.stopped) opening e
+    super_made turns =
+        kept_super v opening d e runs was in_place phase sizes call
+        (turns_wrote (first_zone in_place (second (sets_of v))) 0
+        (block_of (head_at v.geometry (first_zone in_place (second (sets_of v))) (next_head v.head))) d e turns)
+
+    pub super_failed : (pieces : List Piece) → AreFlushes pieces → HasFailed d e
+        → Turns (λ i. WriteStep i (first_zone in_place (second (sets_of v))) 0
+          (block_of (head_at v.geometry (first_zone in_place (second (sets_of v))) (next_head v.head))) i) d e
+        → IsKeptVolume (after_failed v pieces) opening e
+    super_failed pieces all rose turns =
+        kept_meta_failed v opening d e runs was (after_super in_place) (first_zone in_place (second (sets_of v))) 0
+        (block_of (head_at v.geometry (first_zone in_place (second (sets_of v))) (next_head v.head)))
+        (super_meta v opening d e runs was in_place phase sizes) call
+        (flush_entries Fault (next_count v.since) pieces) rose turns (failed_entries (next_count v.since) pieces all)
+        (legal_failed pieces all)
+
+  -- A FLUSH
+  module _ (turns : Turns Same d e) (call : FlushesOnce d e) where
+    pub flush_made : (next : Option ℕ) → IsInnerFlush v.phase → IsNextDirty v.dirty 1 next → IsDurable e
+        → IsKeptVolume (after_call v (after_flush v.phase next) (next_count v.since) v.stopped) opening e
+    flush_made next flush is durable = kept_flush v opening d e runs was next flush is turns call durable
+
+    pub flush_failed : (pieces : List Piece) → AreFlushes pieces → HasFailed d e
+        → IsKeptVolume (after_failed v pieces) opening e
+    flush_failed pieces all rose =
+        kept_flush_failed v opening d e runs was turns call (flush_entries Fault (next_count v.since) pieces) rose
+        (failed_entries (next_count v.since) pieces all) (legal_failed pieces all)
+
+    -- THE LAST ONE
+    pub end_made : (alone : Bool) → IsAtEnd v alone → (pieces : List Piece) → AreFlushes pieces
+        → (clean named : List Bool) (division : Division) → EndsAs v clean named division → IsDurable e
+        → IsKeptVolume (after_end v alone (flush_entries Done (next_count v.since) pieces) clean named division
+          (next_count v.since)) opening e
+    end_made alone at_end pieces all clean named division ends durable =
+        kept_end v opening d was alone at_end (flush_entries Done (next_count v.since) pieces) clean named division ends
+        (done_entries (next_count v.since) pieces all) e runs
+        (λ r t legal. legal_flushes_done (base_at opening.zones) v.since (next_count v.since) v.history
+        (flush_entries Done (next_count v.since) pieces) legal was.counted.by_now (was.calm runs) (next_more v.since)
+        (done_entries (next_count v.since) pieces all))
+        turns call durable
