@@ -15,3 +15,5 @@ pub mod MetaWrites
 pub mod Flushes
 pub mod BlockWrites
 pub mod FlushPhases
+pub mod DataSteps
+pub mod DataWrites
