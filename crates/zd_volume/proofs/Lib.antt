@@ -17,3 +17,4 @@ pub mod BlockWrites
 pub mod FlushPhases
 pub mod DataSteps
 pub mod DataWrites
+pub mod LegalEntries

@@ -1,6 +1,7 @@
 -- The steps of a commit, as changes of a volume's values.
 use Rattle.std.specs.Prelude.{◌≡◌, ◌≢◌, ℕ, ◌+◌, ◌-◌, ◌*◌, ◌^◌, ◌<◌, Bool, true, false, cond, ◌==◌}
 use Rattle.std.specs.Prelude.{List, ◌++◌, map, replicate, length, Option, Some, None, if◌then◌else◌}
+use Rattle.std.specs.List.{AllByRecursion}
 use Rattle.zd_base.specs.declared.numbers.Why.{Why}
 use Rattle.zd_alloc.specs.Zones.{Division, after_limbo}
 use Rattle.zd_model.specs.History.{HistoryEntry}
@@ -18,6 +19,10 @@ use Rattle.zd_volume.specs.Phases.{after_block, after_super, after_flush, IsNext
 use Rattle.zd_volume.specs.Phases.{end_generation, with_generation}
 use Rattle.zd_volume.specs.Uses.{dirty_from}
 use Rattle.zd_volume.specs.Volumes.{PlainVolume}
+
+-- pieces that wait for a commit: each is a flush
+abbrev pub AreFlushes : List Piece → Type 0
+AreFlushes pieces = AllByRecursion (λ (p : Piece). p.what ≡ Flush) pieces
 
 -- the flushes of these pieces, as a commit enters them
 abbrev pub flush_entries : Answer → ℕ → List Piece → List HistoryEntry
