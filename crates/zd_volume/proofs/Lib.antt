@@ -18,3 +18,4 @@ pub mod FlushPhases
 pub mod DataSteps
 pub mod DataWrites
 pub mod LegalEntries
+pub mod DropTables

@@ -7,3 +7,5 @@ pub mod FaultCounts
 pub mod Volumes
 pub mod Starts
 pub mod Commits
+pub mod Marks
+pub mod Discards
