@@ -19,3 +19,5 @@ pub mod DataSteps
 pub mod DataWrites
 pub mod LegalEntries
 pub mod DropTables
+pub mod DropUses
+pub mod DropPlaces

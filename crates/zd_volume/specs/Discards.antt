@@ -1,6 +1,6 @@
 -- What a discard makes of a volume's values: the bits of a range of blocks of one chunk are cleared.
-use Rattle.std.specs.Prelude.{◌≡◌, ◌⊎◌, ℕ, ◌+◌, ◌/◌, ◌%◌, ◌<◌, ◌≤◌, Bool, false, List, [], ◌∷◌, ◌++◌}
-use Rattle.std.specs.Prelude.{length, Option}
+use Rattle.std.specs.Prelude.{◌≡◌, ◌≢◌, ◌⊎◌, ℕ, ◌+◌, ◌/◌, ◌%◌, ◌<◌, ◌≤◌, Bool, false, List, []}
+use Rattle.std.specs.Prelude.{◌∷◌, ◌++◌, length, Option, Some, None, ⊤}
 use Rattle.zd_alloc.specs.Candidates.{GivesClass}
 use Rattle.zd_alloc.specs.declared.job_class.JobClass.{JobClass}
 use Rattle.zd_model.specs.History.{HistoryEntry}
@@ -18,6 +18,7 @@ use Rattle.zd_volume.specs.Jobs.{class_in}
 use Rattle.zd_volume.specs.Marks.{MarksChanged}
 use Rattle.zd_volume.specs.Sets.{Sets, new_tables}
 use Rattle.zd_volume.specs.Volumes.{PlainVolume, sets_of}
+use Rattle.zd_volume.specs.declared.work.Work.{Work}
 
 -- the chunk of a piece, and its blocks of that chunk: the first, and the one behind the last. Zones
 -- have b blocks
@@ -51,6 +52,11 @@ pub record ClearsRange (s : Sets) (chunk first end : ℕ) (bytes : List ℕ) : T
       (tables_in s.geometry s.head.layout bytes)
   pub front : (k : ℕ) → k < 1 + s.head.layout.map_blocks → blocks_of bytes k 1 ≡ blocks_of s.new k 1
   pub size : length bytes ≡ length s.new
+
+-- no job is under way on this chunk
+abbrev pub NoJobOn : Option Work → ℕ → Type 0
+NoJobOn None chunk = ⊤
+NoJobOn (Some w) chunk = w.job.chunk ≢ chunk
 
 -- a piece is entered with this reply
 abbrev pub entry_for : Piece → Answer → ℕ → HistoryEntry
