@@ -21,3 +21,4 @@ pub mod LegalEntries
 pub mod DropTables
 pub mod DropUses
 pub mod DropPlaces
+pub mod DropServes
