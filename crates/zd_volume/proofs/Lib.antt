@@ -22,3 +22,4 @@ pub mod DropTables
 pub mod DropUses
 pub mod DropPlaces
 pub mod DropServes
+pub mod DropCopies
