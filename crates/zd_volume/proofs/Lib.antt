@@ -23,3 +23,4 @@ pub mod DropUses
 pub mod DropPlaces
 pub mod DropServes
 pub mod DropCopies
+pub mod DropLaws
