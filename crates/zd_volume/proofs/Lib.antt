@@ -24,3 +24,4 @@ pub mod DropPlaces
 pub mod DropServes
 pub mod DropCopies
 pub mod DropLaws
+pub mod MarkLaws
