@@ -25,3 +25,4 @@ pub mod DropServes
 pub mod DropCopies
 pub mod DropLaws
 pub mod MarkLaws
+pub mod DropBlocks
