@@ -1,15 +1,16 @@
 -- FROM THE CHANGED BLOCKS to what a discard makes of the tables: the bits of a range are cleared in the chunk's zone, then
 -- in its buffer, where there are such.
-use Rattle.std.proofs.Common.{◌≡◌, ◌≢◌, ◌⊎◌, ℕ, ◌+◌, ◌*◌, ◌<◌, ◌≤◌, Bool, false, List, length, Option, Some, None, IsSomeAnd, inl, inr, refl, sym, ap, ◌∙◌, subst, arith}
+use Rattle.std.proofs.Common.{◌≡◌, ◌≢◌, ◌⊎◌, ℕ, ◌+◌, ◌*◌, ◌<◌, ◌≤◌, Bool, false, List, length, Option, Some, None}
+use Rattle.std.proofs.Common.{IsSomeAnd, inl, inr, refl, sym, ap, ◌∙◌, subst, arith}
 use Rattle.std.proofs.Math.Nat.{mul-le-mul_right}
 use Rattle.std.proofs.lemmas.Bool.{cases_lt}
 use Rattle.zd_base.specs.Geometry.{IsShape, Shape, per, zone_count}
 use Rattle.zd_base.specs.declared.layout.Layout.{Layout}
-use Rattle.zd_model.specs.Tables.{NamesZone, Tables, entry_of, is_valid}
+use Rattle.zd_model.specs.Tables.{Tables, entry_of, is_valid}
 use Rattle.zd_model.specs.declared.metadata.MapEntry.{MapEntry}
 use Rattle.zd_model.proofs.FaultLaws.{none_some, some_is}
 use Rattle.zd_sets.specs.Blocks.{blocks_of}
-use Rattle.zd_tables.specs.Changes.{ChangesBits, SetsBits, bits_block}
+use Rattle.zd_tables.specs.Changes.{ChangesBits, bits_block}
 use Rattle.zd_tables.specs.Tables.{tables_in}
 use Rattle.zd_tables.proofs.TableLaws.{range_changed}
 use Rattle.zd_tables.proofs.ZoneParts.{bits_room}

@@ -1,13 +1,13 @@
 -- A DISCARD KEEPS A VOLUME: in Idle, beside a job on another chunk. It makes no call.
-use Rattle.std.proofs.Common.{◌≡◌, ℕ, ◌+◌, ◌<◌, ◌≤◌, Bool, false, cond, List, [], ◌∷◌, ◌++◌, length, Option, Some, None, refl, sym, ap, ap₂, ◌∙◌, subst, arith}
+use Rattle.std.proofs.Common.{◌≡◌, ℕ, ◌+◌, ◌≤◌, Bool, false, cond, List, [], ◌∷◌, ◌++◌, length, Option, Some, None}
+use Rattle.std.proofs.Common.{refl, sym, ap, ap₂, ◌∙◌, subst, arith}
 use Rattle.std.specs.List.{AllByRecursion, concat}
 use Rattle.std.specs.Prelude.{slice_range}
 use Rattle.zd_alloc.specs.Candidates.{GivesClass}
 use Rattle.zd_alloc.specs.declared.job_class.JobClass.{JobClass}
 use Rattle.zd_model.specs.History.{HistoryEntry, IsLegal, last_array}
 use Rattle.zd_model.specs.Image.{Image}
-use Rattle.zd_model.specs.Plain.{Answer, answer_in_range, ends_past, reply_to}
-use Rattle.zd_model.specs.Plain.{Answer as answers}
+use Rattle.zd_model.specs.Plain.{Answer, answer_in_range, ends_past, reply_to, Answer as answers}
 use Rattle.zd_model.specs.Plain.Answer.{Done, Fault}
 use Rattle.zd_model.specs.Requests.{Operation, first_sector, operation_of, sector_count}
 use Rattle.zd_model.specs.Requests.Operation.{Discarding, Writing}
@@ -18,7 +18,8 @@ use Rattle.zd_model.proofs.ArrayLaws.{length-last_array}
 use Rattle.zd_model.proofs.HeldLaws.{AreBy-push}
 use Rattle.zd_disk.specs.View.{View}
 use Rattle.zd_tables.specs.Tables.{tables_in}
-use Rattle.zd_volume.specs.Discards.{ClearsRange, DiscardsBlocks, DropsRange, NoJobOn, after_drop, chunk_of, end_of, entry_for, first_of}
+use Rattle.zd_volume.specs.Discards.{ClearsRange, DiscardsBlocks, DropsRange, NoJobOn, after_drop, chunk_of, end_of}
+use Rattle.zd_volume.specs.Discards.{entry_for, first_of}
 use Rattle.zd_volume.specs.FaultCounts.{AreCalm}
 use Rattle.zd_volume.specs.Jobs.{class_in}
 use Rattle.zd_volume.specs.LeftImages.{MayBeLeft, ReadsAs}

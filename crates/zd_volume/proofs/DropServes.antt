@@ -1,13 +1,12 @@
 -- What a disk reads as, and what a stop may leave, where a discard has cleared bits: the history has one entry more.
-use Rattle.std.proofs.Common.{◌≡◌, ◌≢◌, ℕ, ◌+◌, ◌*◌, ◌/◌, ◌%◌, ◌<◌, ◌≤◌, false, List, [], ◌∷◌, ◌++◌, length, slice_index_or, Option, Some, None, inl, inr, refl, sym, ap, ap₂, ◌∙◌, subst, arith}
-use Rattle.zd_base.specs.declared.layout.Layout.{Layout}
+use Rattle.std.proofs.Common.{◌≡◌, ◌≢◌, ℕ, false, List, [], ◌∷◌, ◌++◌, length, slice_index_or, inl, inr, refl, sym, ap}
+use Rattle.std.proofs.Common.{◌∙◌, arith}
 use Rattle.zd_model.specs.Bytes.{zero_sector}
 use Rattle.zd_model.specs.History.{HistoryEntry, entry_after, last_array}
 use Rattle.zd_model.specs.Image.{Image}
-use Rattle.zd_model.specs.Places.{zone_at}
 use Rattle.zd_model.specs.Plain.{Answer, array_after, ends_past}
 use Rattle.zd_model.specs.Plain.Answer.{Done}
-use Rattle.zd_model.specs.Requests.{Operation, operation_of}
+use Rattle.zd_model.specs.Requests.{operation_of}
 use Rattle.zd_model.specs.Requests.Operation.{Discarding}
 use Rattle.zd_model.specs.Safe.{last_at}
 use Rattle.zd_model.specs.Stops.{Covers, MayHold, is_done_flush}
@@ -24,7 +23,8 @@ use Rattle.zd_volume.specs.Discards.{ClearsRange, DiscardsBlocks, chunk_of, end_
 use Rattle.zd_volume.specs.LeftImages.{MayBeLeft, ReadsAs}
 use Rattle.zd_volume.specs.Sets.{AreSets, Sets, device_sectors, new_tables}
 use Rattle.zd_volume.specs.declared.phase.Phase.TheVariants.{Idle}
-use Rattle.zd_volume.proofs.DropPlaces.{covers_within, in_range, inside_nowhere, outside_there, outside_within, puts_zeros, sector_same}
+use Rattle.zd_volume.proofs.DropPlaces.{covers_within, in_range, inside_nowhere, outside_there, outside_within}
+use Rattle.zd_volume.proofs.DropPlaces.{puts_zeros, sector_same}
 use Rattle.zd_volume.proofs.DropTables.{below_dropped}
 use Rattle.zd_volume.proofs.Images.{left_idle}
 

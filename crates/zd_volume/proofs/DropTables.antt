@@ -1,8 +1,8 @@
 -- Where the bits of a range of a chunk's blocks are cleared, the rules of the tables are kept, and flags of changed
 -- blocks are right.
-use Rattle.std.proofs.Common.{◌≡◌, ◌≢◌, ◌⊎◌, ℕ, ◌+◌, ◌*◌, ◌<◌, ◌≤◌, Bool, true, false, List, length, Option, Some, None, IsSomeAnd, inl, inr, sym, ap, ◌∙◌, subst, arith}
+use Rattle.std.proofs.Common.{◌≡◌, ◌≢◌, ◌⊎◌, ℕ, ◌<◌, ◌≤◌, Bool, true, List, Option, Some, None, IsSomeAnd, inl, inr}
+use Rattle.std.proofs.Common.{sym, ap, ◌∙◌, subst, arith}
 use Rattle.std.proofs.lemmas.Bool.{cases_eq, cases_lt, false_from_ne_true, false≢true}
-use Rattle.std.specs.Prelude.{IsTrue}
 use Rattle.zd_base.specs.Geometry.{Shape, zone_sectors}
 use Rattle.zd_model.specs.Tables.{BitsFollowRules, MapFollowsRules, NamesZone, Tables, entry_of, is_valid}
 use Rattle.zd_model.specs.declared.metadata.MapEntry.{MapEntry}

@@ -1,6 +1,7 @@
 -- Where the bits of a range of a chunk's blocks are cleared, the zones are used as they were, each chunk has its class,
 -- and a job on another chunk goes on.
-use Rattle.std.proofs.Common.{◌≡◌, ◌≢◌, ℕ, suc, zero, ◌+◌, ◌<◌, Bool, cond, List, Option, Some, None, inl, inr, refl, sym, ap, ap₂, ◌∙◌, subst}
+use Rattle.std.proofs.Common.{◌≡◌, ◌≢◌, ℕ, suc, zero, ◌+◌, Bool, cond, List, Option, Some, None, inl, inr, refl, sym}
+use Rattle.std.proofs.Common.{ap, ap₂, ◌∙◌, subst}
 use Rattle.std.proofs.lemmas.Bool.{cases_eq}
 use Rattle.std.specs.List.{find, range_with_len}
 use Rattle.std.specs.Prelude.{nat_lt, slice_index}
@@ -14,7 +15,8 @@ use Rattle.zd_model.proofs.FaultLaws.{none_some}
 use Rattle.zd_tables.specs.Held.{first_valid_block}
 use Rattle.zd_tables.specs.Tables.{tables_in}
 use Rattle.zd_volume.specs.Discards.{ClearsRange, NoJobOn}
-use Rattle.zd_volume.specs.Jobs.{FitsEntry, HasTarget, IsJob, IsJobOrNone, IsNamed, class_alone, class_buffered, class_by, class_in, source_of}
+use Rattle.zd_volume.specs.Jobs.{FitsEntry, HasTarget, IsJob, IsJobOrNone, IsNamed, class_alone, class_buffered}
+use Rattle.zd_volume.specs.Jobs.{class_by, class_in, source_of}
 use Rattle.zd_volume.specs.Sets.{AreSets, Sets, new_tables, old_tables}
 use Rattle.zd_volume.specs.Uses.{AreCandidates, AreUsed}
 use Rattle.zd_volume.specs.declared.work.JobKind.{JobKind}

@@ -1,18 +1,18 @@
 -- Changed bits of a zone mark exactly the blocks that changed; and so do changes of two zones.
-use Rattle.std.proofs.Common.{◌≡◌, ◌≢◌, ◌⊎◌, ◌↔◌, ℕ, ◌+◌, ◌*◌, ◌/◌, ◌%◌, ◌<◌, ◌≤◌, Bool, true, false, not, ◌||◌, List, length, get_or, Option, Some, None, inl, inr, refl, sym, ap, ap₂, ◌∙◌, subst, arith}
-use Rattle.std.proofs.Math.Nat.{mul-le-mul_right}
-use Rattle.std.proofs.lemmas.Bool.{cases_Bool, cases_eq, cases_lt, false≢true}
+use Rattle.std.proofs.Common.{◌≡◌, ◌≢◌, ◌⊎◌, ◌↔◌, ℕ, ◌+◌, ◌*◌, ◌/◌, ◌%◌, ◌<◌, ◌≤◌, Bool, true, false, not, ◌||◌, List}
+use Rattle.std.proofs.Common.{length, get_or, inl, inr, refl, sym, ap, ap₂, ◌∙◌, subst, arith}
+use Rattle.std.proofs.lemmas.Bool.{cases_Bool, cases_eq, cases_lt}
 use Rattle.zd_base.specs.Geometry.{IsShape, Shape, per, zone_count}
 use Rattle.zd_base.specs.declared.layout.Layout.{Layout}
 use Rattle.zd_model.specs.Tables.{is_set, is_valid}
 use Rattle.zd_sets.specs.Blocks.{blocks_of}
 use Rattle.zd_sets.specs.Lending.{OnlyBlocks}
 use Rattle.zd_tables.specs.Changes.{Differs, SetsBits, TellsParts, bits_block}
-use Rattle.zd_tables.specs.Tables.{bits_in_blocks, tables_in}
+use Rattle.zd_tables.specs.Tables.{tables_in}
 use Rattle.zd_tables.specs.declared.part.ChangedParts.{ChangedParts}
 use Rattle.zd_tables.proofs.TableLaws.{bit_by_block, valid_is}
 use Rattle.zd_tables.proofs.ZoneParts.{bits_room, one_or_two}
-use Rattle.zd_volume.specs.Marks.{GivesBits, GivesBitsIn, MarksChanged, MarksParts}
+use Rattle.zd_volume.specs.Marks.{MarksChanged, MarksParts}
 
 -- nothing changed
 pub marks_none : (bytes : List ℕ) (dirty : List Bool) → MarksChanged bytes bytes dirty dirty

@@ -1,11 +1,10 @@
 -- What a discard makes of a volume's values: the bits of a range of blocks of one chunk are cleared.
-use Rattle.std.specs.Prelude.{◌≡◌, ◌≢◌, ◌⊎◌, ℕ, ◌+◌, ◌/◌, ◌%◌, ◌<◌, ◌≤◌, Bool, false, List, []}
-use Rattle.std.specs.Prelude.{◌∷◌, ◌++◌, length, Option, Some, None, ⊤}
+use Rattle.std.specs.Prelude.{◌≡◌, ◌≢◌, ◌⊎◌, ℕ, ◌+◌, ◌/◌, ◌%◌, ◌<◌, ◌≤◌, Bool, false, List, [], ◌∷◌}
+use Rattle.std.specs.Prelude.{◌++◌, length, Option, Some, None, ⊤}
 use Rattle.zd_alloc.specs.Candidates.{GivesClass}
 use Rattle.zd_alloc.specs.declared.job_class.JobClass.{JobClass}
 use Rattle.zd_model.specs.History.{HistoryEntry}
-use Rattle.zd_model.specs.Plain.{Answer}
-use Rattle.zd_model.specs.Plain.{Answer as answers}
+use Rattle.zd_model.specs.Plain.{Answer, Answer as answers}
 use Rattle.zd_model.specs.Requests.{block_count, first_block, operation_of}
 use Rattle.zd_model.specs.Requests.Operation.{Discarding}
 use Rattle.zd_model.specs.Tables.{NamesZone, Tables, entry_of, is_valid}

@@ -1,6 +1,6 @@
 -- Which flags of dirty blocks are set where blocks of the set change.
-use Rattle.std.specs.Prelude.{◌≡◌, ◌≢◌, ◌↔◌, ℕ, ◌+◌, ◌<◌, Bool, true, false, ◌||◌, List, length, get_or}
-use Rattle.std.specs.Prelude.{Option, Some, None}
+use Rattle.std.specs.Prelude.{◌≡◌, ◌≢◌, ◌↔◌, ℕ, ◌+◌, ◌<◌, Bool, true, false, ◌||◌, List, length}
+use Rattle.std.specs.Prelude.{get_or, Option, Some, None}
 use Rattle.zd_base.specs.Geometry.{Shape}
 use Rattle.zd_base.specs.declared.layout.Layout.{Layout}
 use Rattle.zd_sets.specs.Blocks.{blocks_of}
