@@ -88,9 +88,11 @@ module _ (v : PlainVolume) (opening d e : View) (runs : v.stopped ≡ None) (was
         past = λ k n x l m. past (base_at opening.zones) v.history entry k n x
             (let more = next_more v.since in omega (arith, at, l, more)) m;
         reads = λ still r j t u of_r of_j was_now. now (done_runs done still) r j t u of_r of_j was_now;
-        before = λ r i c one known s t. safe_at v.since r c t known.new_of (moved v.since r i c (omega arith) one t known s);
+        before = λ r i c one known s t.
+            safe_at v.since r c t known.new_of (moved v.since r i c (omega arith) one t known s);
         after = λ r i c one known s t _ _.
-            safe_at (next_count v.since) r c t known.new_of (moved (next_count v.since) r i c (omega arith) one t known s);
+            safe_at (next_count v.since) r c t known.new_of
+            (moved (next_count v.since) r i c (omega arith) one t known s);
         stops = λ _ r i c one known s t _ _. moved (next_count v.since) r i c (omega arith) one t known s;
       })
     where
@@ -103,8 +105,8 @@ module _ (v : PlainVolume) (opening d e : View) (runs : v.stopped ≡ None) (was
           → Known v (base_at opening.zones) r i c → WriteStep r z start bytes i c
           → MayBeLeft Idle (record (sets_of v) { new = fresh }) (base_at opening.zones) (v.history ++ entry ∷ []) k c
       moved k r i c le one t known s =
-          left_write (sets_of v) was.fixed.sets entry v.since k z start bytes fresh (base_at opening.zones) v.history r i c
-          known.reads_of known.left_of le was.counted.by_now plain
+          left_write (sets_of v) was.fixed.sets entry v.since k z start bytes fresh (base_at opening.zones) v.history
+          r i c known.reads_of known.left_of le was.counted.by_now plain
           (λ n j low place few spot_is. own k n j (omega (arith, one, le)) low place few spot_is) s
           (λ seq. pointer r t known.reads (subst (λ (g : Shape). g.conv ≤ z) known.left_of.geometry seq))
           (sets_apart (sets_of v) was.fixed.sets i c known.left_of z far s.geometry s.others)

@@ -1,5 +1,5 @@
--- FROM THE CHANGED BLOCKS to what a discard makes of the tables: the bits of a range are cleared in the chunk's zone, then
--- in its buffer, where there are such.
+-- FROM THE CHANGED BLOCKS to what a discard makes of the tables: the bits of a range are cleared in the chunk's zone,
+-- then in its buffer, where there are such.
 use Rattle.std.proofs.Common.{◌≡◌, ◌≢◌, ◌⊎◌, ℕ, ◌+◌, ◌*◌, ◌<◌, ◌≤◌, Bool, false, List, length, Option, Some, None}
 use Rattle.std.proofs.Common.{IsSomeAnd, inl, inr, refl, sym, ap, ◌∙◌, subst, arith}
 use Rattle.std.proofs.Math.Nat.{mul-le-mul_right}
@@ -19,6 +19,10 @@ use Rattle.zd_volume.specs.Marks.{GivesBitsIn, MarksChanged}
 use Rattle.zd_volume.specs.Sets.{AreSets, Sets, new_tables}
 use Rattle.zd_volume.proofs.DropTables.{some_or}
 use Rattle.zd_volume.proofs.MarkLaws.{marks_none, marks_parts, marks_then, only_zone}
+
+-- a block isn't one of a zone's bitmap
+abbrev IsApart : Shape → Layout → ℕ → ℕ → Type 0
+IsApart g l k zone = (k < bits_block g l zone) ⊎ (bits_block g l zone + per g ≤ k)
 
 -- what one range makes of the tables, where there is a zone
 record ClearsIn (o : Option ℕ) (first end : ℕ) (t u : Tables) : Type 0 where
@@ -70,7 +74,8 @@ module _ (g : Shape) (l : Layout) (shape : IsShape g) (map : l.chunks ≤ l.map_
       none_cleared first end (tables_in g l old) (tables_in g l new) (ap (λ (b : List ℕ). tables_in g l b) gives.0)
   one_tables (Some z) low gives =
       one_cleared z first end (tables_in g l old) (tables_in g l new)
-      (range_changed g l old new false z first end (omega (arith, inside, bits_room g shape)) (low z refl) map gives.bits)
+      (range_changed g l old new false z first end (omega (arith, inside, bits_room g shape)) (low z refl) map
+      gives.bits)
 
   one_marks : (o : Option ℕ) → ((z : ℕ) → o ≡ Some z → z < zone_count g)
       → GivesBitsIn false g l o first end old new dirty marked → MarksChanged old new dirty marked
@@ -78,8 +83,8 @@ module _ (g : Shape) (l : Layout) (shape : IsShape g) (map : l.chunks ≤ l.map_
       subst (λ (b : List ℕ). MarksChanged old b dirty marked) (sym gives.0)
       (subst (λ (m : List Bool). MarksChanged old old dirty m) (sym gives.1) (marks_none old dirty))
   one_marks (Some z) low gives =
-      marks_parts false g l shape z first end (low z refl) inside old new gives.bits gives.changed gives.tells dirty marked
-      gives.marks
+      marks_parts false g l shape z first end (low z refl) inside old new gives.bits gives.changed gives.tells
+      dirty marked gives.marks
 
   one_size : (o : Option ℕ) → GivesBitsIn false g l o first end old new dirty marked → length new ≡ length old
   one_size None gives = ap (λ (b : List ℕ). length b) gives.0
@@ -88,16 +93,14 @@ module _ (g : Shape) (l : Layout) (shape : IsShape g) (map : l.chunks ≤ l.map_
   -- blocks of other zones, and those before the bitmaps, stay
   one_others : (o : Option ℕ) → ((z : ℕ) → o ≡ Some z → z < zone_count g)
       → GivesBitsIn false g l o first end old new dirty marked → (k : ℕ)
-      → ((z : ℕ) → o ≡ Some z → (k < bits_block g l z) ⊎ (bits_block g l z + per g ≤ k))
+      → ((z : ℕ) → o ≡ Some z → IsApart g l k z)
       → blocks_of new k 1 ≡ blocks_of old k 1
   one_others None low gives k out = ap (λ (b : List ℕ). blocks_of b k 1) gives.0
   one_others (Some z) low gives k out =
       (only_zone false g l shape z first end (low z refl) inside old new gives.bits).others k (out z refl)
 
 -- the bitmaps of two zones stand apart
-apart_blocks : (g : Shape) (l : Layout) (z y k : ℕ) → z ≢ y
-    → ((k < bits_block g l z) ⊎ (bits_block g l z + per g ≤ k))
-    ⊎ ((k < bits_block g l y) ⊎ (bits_block g l y + per g ≤ k))
+apart_blocks : (g : Shape) (l : Layout) (z y k : ℕ) → z ≢ y → IsApart g l k z ⊎ IsApart g l k y
 apart_blocks g l z y k off = elim (cases_lt k (bits_block g l z)) [
   | inl below ↦ inl (inl below)
   | inr above ↦ elim (cases_lt k (bits_block g l z + per g)) [
@@ -115,7 +118,8 @@ apart_blocks g l z y k off = elim (cases_lt k (bits_block g l z)) [
 
 module _ (s : Sets) (are : AreSets s) (chunk first end : ℕ) (inside : end ≤ s.geometry.zone_blocks)
     (middle bytes : List ℕ) (dirty half marked : List Bool)
-    (one : GivesBitsIn false s.geometry s.head.layout (entry_of (new_tables s) chunk).zone first end s.new middle dirty half)
+    (one : GivesBitsIn false s.geometry s.head.layout (entry_of (new_tables s) chunk).zone first end s.new middle
+    dirty half)
     (two : GivesBitsIn false s.geometry s.head.layout (entry_of (new_tables s) chunk).buffer first end middle bytes half
     marked) where
   abbrev g : Shape
@@ -133,8 +137,7 @@ module _ (s : Sets) (are : AreSets s) (chunk first end : ℕ) (inside : end ≤ 
   low_buffer : (z : ℕ) → (entry_of (new_tables s) chunk).buffer ≡ Some z → z < zone_count s.geometry
   low_buffer z is = (are.new_rules.map.data_zones chunk z (inr is)).1
 
-  before : (z k : ℕ) → k < 1 + s.head.layout.map_blocks
-      → (k < bits_block s.geometry s.head.layout z) ⊎ (bits_block s.geometry s.head.layout z + per s.geometry ≤ k)
+  before : (z k : ℕ) → k < 1 + s.head.layout.map_blocks → IsApart s.geometry s.head.layout k z
   before z k few = inl (omega (arith, few))
 
   -- THE TABLES
@@ -162,11 +165,10 @@ module _ (s : Sets) (are : AreSets s) (chunk first end : ℕ) (inside : end ≤ 
       inr (one_others g l are.shape are.fits.map first end inside middle bytes half marked e.buffer low_buffer two k
       (λ y h. absurd (none_some y (sym bare ∙ h))))
   once (Some z) (Some y) zone buffer k = elim (apart_blocks g l z y k off) [
-    | inl out ↦ inl (one_others g l are.shape are.fits.map first end inside s.new middle dirty half e.zone low_zone one k
-        (λ x h. subst (λ (n : ℕ). (k < bits_block g l n) ⊎ (bits_block g l n + per g ≤ k)) (some_is z x (sym zone ∙ h)) out))
-    | inr out ↦ inr (one_others g l are.shape are.fits.map first end inside middle bytes half marked e.buffer low_buffer two
-        k
-        (λ x h. subst (λ (n : ℕ). (k < bits_block g l n) ⊎ (bits_block g l n + per g ≤ k)) (some_is y x (sym buffer ∙ h)) out))
+    | inl out ↦ inl (one_others g l are.shape are.fits.map first end inside s.new middle dirty half e.zone low_zone
+        one k (λ x h. subst (IsApart g l k) (some_is z x (sym zone ∙ h)) out))
+    | inr out ↦ inr (one_others g l are.shape are.fits.map first end inside middle bytes half marked e.buffer
+        low_buffer two k (λ x h. subst (IsApart g l k) (some_is y x (sym buffer ∙ h)) out))
   ]
     where
       off : z ≢ y

@@ -25,8 +25,8 @@ chunk_of_sector g chunk x j within few =
     let block : sector_of_chunk g chunk x j / 8 ≡ chunk * g.zone_blocks + x = omega (arith, few) in
     ap (λ (k : ℕ). k / g.zone_blocks) block ∙ div-mul-add chunk g.zone_blocks x within
 
-module _ (s : Sets) (are : AreSets s) (base : List (List ℕ)) (size : length base ≡ device_sectors s) (h : List HistoryEntry)
-    (e : HistoryEntry) (is : DiscardsBlocks s e.what) (done : e.reply ≡ Done) (bytes : List ℕ)
+module _ (s : Sets) (are : AreSets s) (base : List (List ℕ)) (size : length base ≡ device_sectors s)
+    (h : List HistoryEntry) (e : HistoryEntry) (is : DiscardsBlocks s e.what) (done : e.reply ≡ Done) (bytes : List ℕ)
     (did : ClearsRange s (chunk_of s.geometry.zone_blocks e.what) (first_of s.geometry.zone_blocks e.what)
     (end_of s.geometry.zone_blocks e.what) bytes) where
   -- the sectors of another chunk are as they were

@@ -13,6 +13,7 @@ use Rattle.zd_model.specs.Requests.{Operation, first_sector, operation_of, secto
 use Rattle.zd_model.specs.Requests.Operation.{Discarding, Writing}
 use Rattle.zd_model.specs.Safe.{base_at}
 use Rattle.zd_model.specs.Stops.{AreBy}
+use Rattle.zd_model.specs.Tables.{entry_of}
 use Rattle.zd_model.specs.declared.requests.Piece.{Piece}
 use Rattle.zd_model.proofs.ArrayLaws.{length-last_array}
 use Rattle.zd_model.proofs.HeldLaws.{AreBy-push}
@@ -23,11 +24,13 @@ use Rattle.zd_volume.specs.Discards.{entry_for, first_of}
 use Rattle.zd_volume.specs.FaultCounts.{AreCalm}
 use Rattle.zd_volume.specs.Jobs.{class_in}
 use Rattle.zd_volume.specs.LeftImages.{MayBeLeft, ReadsAs}
-use Rattle.zd_volume.specs.Marks.{MarksChanged}
+use Rattle.zd_volume.specs.Marks.{GivesBitsIn, MarksChanged}
+use Rattle.zd_volume.specs.Sets.{AreSets, new_tables}
 use Rattle.zd_volume.specs.Uses.{IsPhase}
 use Rattle.zd_volume.specs.Volumes.{IsFixed, IsKeptVolume, IsNow, PlainVolume, sets_of}
 use Rattle.zd_volume.specs.declared.phase.Phase.{Phase}
 use Rattle.zd_volume.specs.declared.phase.Phase.TheVariants.{Idle}
+use Rattle.zd_volume.proofs.DropBlocks.{range_cleared, range_marked}
 use Rattle.zd_volume.proofs.DropCopies.{copies_dropped}
 use Rattle.zd_volume.proofs.DropPlaces.{in_range}
 use Rattle.zd_volume.proofs.DropServes.{discard_holds, left_dropped, reads_dropped}
@@ -80,7 +83,8 @@ module _ (v : PlainVolume) (opening now : View) (runs : v.stopped ≡ None) (was
   fixed_dropped : IsFixed (after_drop v bytes dirty classes e)
   fixed_dropped = record {
     sets = sets_dropped (sets_of v) was.fixed.sets c first end bytes did;
-    flags = flags_marked (sets_of v) v.dirty dirty bytes was.fixed.flags (omega arith) marks (did.front 0 (omega arith));
+    flags = flags_marked (sets_of v) v.dirty dirty bytes was.fixed.flags (omega arith) marks
+        (did.front 0 (omega arith));
     under_way = subst (λ (p : Phase). IsPhase p dirty v.head.generation) (sym idle) tt;
     uses = uses_dropped (sets_of v) was.fixed.sets c first end bytes did v.job v.division was.fixed.uses;
     named = was.fixed.named;
@@ -96,11 +100,12 @@ module _ (v : PlainVolume) (opening now : View) (runs : v.stopped ≡ None) (was
   now_dropped r t reads = record {
     read = subst (λ (p : Phase). ReadsAs p (sets_of (after_drop v bytes dirty classes e)) (base_at opening.zones)
         (v.history ++ e ∷ []) r) (sym idle)
-        (reads_dropped (sets_of v) (base_at opening.zones) (was.based r t) v.history e is done was.fixed.sets bytes did r
+        (reads_dropped (sets_of v) (base_at opening.zones) (was.based r t) v.history e is done was.fixed.sets bytes
+        did r
         (subst (λ (p : Phase). ReadsAs p (sets_of v) (base_at opening.zones) v.history r) idle reads.read));
     pointers = reads.pointers;
-    copies = copies_dropped (sets_of v) was.fixed.sets (base_at opening.zones) (was.based r t) v.history e is done bytes did
-        v.job v.pointers v.buffer r off was.fixed.job reads.copies;
+    copies = copies_dropped (sets_of v) was.fixed.sets (base_at opening.zones) (was.based r t) v.history e is done
+        bytes did v.job v.pointers v.buffer r off was.fixed.job reads.copies;
   }
 
   kept_after : IsKeptVolume (after_drop v bytes dirty classes e) opening now
@@ -125,7 +130,31 @@ module _ (v : PlainVolume) (opening now : View) (runs : v.stopped ≡ None) (was
             (subst (λ (p : Phase). MayBeLeft p (sets_of v) (base_at opening.zones) v.history v.since i) idle may));
       })
 
--- THE DISCARD OF A PIECE
+-- THE DISCARD OF A PIECE, by what it does to the blocks of the set
+pub drops_by : (v : PlainVolume) (p : Piece) (middle bytes : List ℕ) (half marked : List Bool)
+    (classes : List (Option JobClass)) → AreSets (sets_of v) → DiscardsBlocks (sets_of v) p.what
+    → GivesBitsIn false v.geometry v.head.layout
+      (entry_of (new_tables (sets_of v)) (chunk_of v.geometry.zone_blocks p.what)).zone
+      (first_of v.geometry.zone_blocks p.what) (end_of v.geometry.zone_blocks p.what) v.fresh middle v.dirty half
+    → GivesBitsIn false v.geometry v.head.layout
+      (entry_of (new_tables (sets_of v)) (chunk_of v.geometry.zone_blocks p.what)).buffer
+      (first_of v.geometry.zone_blocks p.what) (end_of v.geometry.zone_blocks p.what) middle bytes half marked
+    → GivesClass (chunk_of v.geometry.zone_blocks p.what)
+      (class_in v.geometry v.pointers (tables_in v.geometry v.head.layout bytes)
+      (chunk_of v.geometry.zone_blocks p.what)) v.standings.classes classes
+    → DropsRange v (after_drop v bytes marked classes (entry_for p answers.Done v.since)) p
+drops_by v p middle bytes half marked classes are is one two gives = record {
+  range = range_cleared (sets_of v) are (chunk_of v.geometry.zone_blocks p.what)
+      (first_of v.geometry.zone_blocks p.what) (end_of v.geometry.zone_blocks p.what) is.inside middle bytes v.dirty
+      half marked one two;
+  dirty = range_marked (sets_of v) are (chunk_of v.geometry.zone_blocks p.what)
+      (first_of v.geometry.zone_blocks p.what) (end_of v.geometry.zone_blocks p.what) is.inside middle bytes v.dirty
+      half marked one two;
+  classes = gives;
+  rest = refl;
+}
+
+-- it keeps the volume
 pub kept_drop : (from to : PlainVolume) (p : Piece) (opening now : View) → from.stopped ≡ None
     → IsKeptVolume from opening now → from.phase ≡ Idle → DiscardsBlocks (sets_of from) p.what
     → NoJobOn from.job (chunk_of from.geometry.zone_blocks p.what) → DropsRange from to p → IsKeptVolume to opening now

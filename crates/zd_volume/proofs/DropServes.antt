@@ -43,8 +43,8 @@ pub discard_holds : (base : List (List ℕ)) (h : List HistoryEntry) (e : Histor
 discard_holds base h e k n v is may = no_flush base h e k n v (discard_plain e.what e.reply is) may
 
 -- THE LAST ARRAY has zeros where the discard was, and elsewhere what it had
-module _ (s : Sets) (base : List (List ℕ)) (size : length base ≡ device_sectors s) (h : List HistoryEntry) (e : HistoryEntry)
-    (is : DiscardsBlocks s e.what) (done : e.reply ≡ Done) where
+module _ (s : Sets) (base : List (List ℕ)) (size : length base ≡ device_sectors s) (h : List HistoryEntry)
+    (e : HistoryEntry) (is : DiscardsBlocks s e.what) (done : e.reply ≡ Done) where
   fits : ends_past (length (last_array base h)) e.what ≡ false
   fits = ap (λ (k : ℕ). ends_past k e.what) (length-last_array base h ∙ size) ∙ in_range s e.what is
 

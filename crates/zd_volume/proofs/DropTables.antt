@@ -58,14 +58,16 @@ pub below_dropped : (g : Shape) (held : ℕ → ℕ) (e : MapEntry) (from end : 
 below_dropped g held e from end t u clears below z x seq low within valid =
     below z x seq low within (still_valid e from end t u clears z x valid)
 
-module _ (s : Sets) (are : AreSets s) (chunk from end : ℕ) (bytes : List ℕ) (did : ClearsRange s chunk from end bytes) where
+module _ (s : Sets) (are : AreSets s) (chunk from end : ℕ) (bytes : List ℕ)
+    (did : ClearsRange s chunk from end bytes) where
   abbrev t : Tables
   t = new_tables s
 
   abbrev u : Tables
   u = tables_in s.geometry s.head.layout bytes
 
-  still : (z x : ℕ) → is_valid (tables_in s.geometry s.head.layout bytes) z x ≡ true → is_valid (new_tables s) z x ≡ true
+  still : (z x : ℕ) → is_valid (tables_in s.geometry s.head.layout bytes) z x ≡ true
+      → is_valid (new_tables s) z x ≡ true
   still z x valid = still_valid (entry_of (new_tables s) chunk) from end t u did.bits z x valid
 
   -- an entry names what it named

@@ -25,7 +25,8 @@ use Rattle.zd_volume.specs.declared.work.Work.{Work}
 use Rattle.zd_volume.proofs.DropTables.{named_after, named_before, others_stay}
 
 -- the first block that is valid, where the same ones are
-find_same : (p q : ℕ → Bool) (a n : ℕ) → ((x : ℕ) → p x ≡ q x) → find p (range_with_len a n) ≡ find q (range_with_len a n)
+find_same : (p q : ℕ → Bool) (a n : ℕ) → ((x : ℕ) → p x ≡ q x)
+    → find p (range_with_len a n) ≡ find q (range_with_len a n)
 find_same p q a zero same = refl
 find_same p q a (suc n) same =
     ap₂ (λ (b : Bool) (rest : Option ℕ). cond b (Some a) rest) (same a) (find_same p q (a + 1) n same)
@@ -70,7 +71,8 @@ target_stays g old t u Move e target less has =
 target_stays g old t u Append e target less has = has
 target_stays g old t u Merge e target less has = has
 
-module _ (s : Sets) (are : AreSets s) (chunk from end : ℕ) (bytes : List ℕ) (did : ClearsRange s chunk from end bytes) where
+module _ (s : Sets) (are : AreSets s) (chunk from end : ℕ) (bytes : List ℕ)
+    (did : ClearsRange s chunk from end bytes) where
   abbrev t : Tables
   t = new_tables s
 

@@ -74,8 +74,10 @@ module _ (bit : Bool) (g : Shape) (l : Layout) (shape : IsShape g) (zone first e
       → blocks_of new (bits_block g l zone + k) 1 ≡ blocks_of old (bits_block g l zone + k) 1 → ⊥
   part_differs k d same =
       let at = d.3 in
-      let blocks : blocks_of new (bits_block g l zone + d.0 / 32768) 1 ≡ blocks_of old (bits_block g l zone + d.0 / 32768) 1 =
-      subst (λ (n : ℕ). blocks_of new (bits_block g l zone + n) 1 ≡ blocks_of old (bits_block g l zone + n) 1) (sym at) same in
+      let blocks : blocks_of new (bits_block g l zone + d.0 / 32768) 1
+      ≡ blocks_of old (bits_block g l zone + d.0 / 32768) 1 =
+      subst (λ (n : ℕ). blocks_of new (bits_block g l zone + n) 1 ≡ blocks_of old (bits_block g l zone + n) 1)
+      (sym at) same in
       not_so bit
       (sym (valid_is g l new zone d.0 low ∙ sets.bits.inside d.0 d.1 d.2)
       ∙ bit_is new d.0 d.2
@@ -83,10 +85,11 @@ module _ (bit : Bool) (g : Shape) (l : Layout) (shape : IsShape g) (zone first e
       ∙ sym (bit_is old d.0 d.2)
       ∙ d.4)
 
-  module _ (changed : ChangedParts) (tells : TellsParts bit g l zone first end old new changed) (dirty marked : List Bool)
-      (marks : MarksParts (bits_block g l zone) changed dirty marked) where
+  module _ (changed : ChangedParts) (tells : TellsParts bit g l zone first end old new changed)
+      (dirty marked : List Bool) (marks : MarksParts (bits_block g l zone) changed dirty marked) where
     -- one part
-    part_clean : (k : ℕ) (b : Bool) → get_or marked (bits_block g l zone + k) true ≡ (b || get_or dirty (bits_block g l zone + k) true)
+    part_clean : (k : ℕ) (b : Bool)
+        → get_or marked (bits_block g l zone + k) true ≡ (b || get_or dirty (bits_block g l zone + k) true)
         → (b ≡ true → Differs bit (tables_in g l old) zone first end k)
         → (b ≡ false → blocks_of new (bits_block g l zone + k) 1 ≡ blocks_of old (bits_block g l zone + k) 1)
         → (get_or marked (bits_block g l zone + k) true ≡ false)

@@ -1,4 +1,4 @@
--- What a discard makes of a volume's values: the bits of a range of blocks of one chunk are cleared.
+-- What a discard makes of a volume's values: the bits of a range of a chunk's blocks are cleared.
 use Rattle.std.specs.Prelude.{◌≡◌, ◌≢◌, ◌⊎◌, ℕ, ◌+◌, ◌/◌, ◌%◌, ◌<◌, ◌≤◌, Bool, false, List, [], ◌∷◌}
 use Rattle.std.specs.Prelude.{◌++◌, length, Option, Some, None, ⊤}
 use Rattle.zd_alloc.specs.Candidates.{GivesClass}
