@@ -25,3 +25,13 @@ pub mod EndUses
 pub mod FixedStart
 pub mod AbandonLaws
 pub mod CodeCalls
+pub mod DataSteps
+pub mod DataWrites
+pub mod DropTables
+pub mod DropUses
+pub mod DropPlaces
+pub mod DropServes
+pub mod DropCopies
+pub mod DropLaws
+pub mod MarkLaws
+pub mod DropBlocks

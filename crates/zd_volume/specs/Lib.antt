@@ -9,3 +9,5 @@ pub mod Starts
 pub mod Commits
 pub mod CommitCalls
 pub mod Abandons
+pub mod Marks
+pub mod Discards
