@@ -1,7 +1,8 @@
 -- How many calls are left of a commit: each makes them one fewer, and the last is the only one left.
-use Rattle.std.proofs.Common.{◌≡◌, ℕ, zero, suc, ◌+◌, ◌-◌, ◌*◌, ◌<◌, Bool, true, false, cond, List, [], ◌∷◌}
+use Rattle.std.proofs.Common.{◌≡◌, ℕ, zero, suc, ◌+◌, ◌-◌, ◌*◌, ◌<◌, Bool, true, false, cond, List, [], ◌∷◌, refl, ◌∙◌}
 use Rattle.std.proofs.Common.{length, get_or, count_by, Option, Some, None, ap, ◌∙◌, arith}
 use Rattle.std.proofs.lemmas.Bool.{eq-eqb, ne_eqb}
+use Rattle.std.proofs.lemmas.List.{get_or_default}
 use Rattle.std.specs.List.{range_with_len}
 use Rattle.zd_disk.proofs.RunLaws.{count_none, count_then}
 use Rattle.zd_volume.specs.Commits.{IsLastCall, IsPhaseAfter, calls_left}
@@ -46,6 +47,17 @@ module _ (dirty : List Bool) where
   dirty_none from is =
       count_none is_dirty from (length dirty - from)
       (λ j a b. flag_off dirty j (is j (omega (arith, a, b)) a))
+
+  -- none is dirty
+  pub none_dirty : (from : ℕ) → dirty_from dirty from ≡ 0 → IsNextDirty dirty from None
+  none_dirty from none j low above = by_flag (get_or dirty j false) refl
+    where
+      by_flag : (b : Bool) → get_or dirty j false ≡ b → get_or dirty j true ≡ false
+      by_flag true is =
+          let parts = count_then is_dirty from j (length dirty) above (omega (arith, low)) in
+          let more = dirty_more j low is in
+          absurd (omega (arith, parts, more, none))
+      by_flag false is = get_or_default dirty j true false low ∙ is
 
   -- where a commit is after a block
   in_log : (from : ℕ) (next : Option ℕ) → IsNextDirty dirty from next

@@ -1,6 +1,7 @@
 -- The calls of a commit as code makes them: what it keeps, and that it is a step of a commit.
-use Rattle.std.proofs.Common.{◌≡◌, ◌⊎◌, ℕ, ◌+◌, ◌-◌, ◌*◌, ◌/◌, ◌%◌, ◌^◌, ◌<◌, ◌≤◌, Bool, true, false, List, length, Option, Some, None, refl, sym, subst, arith}
-use Rattle.std.specs.List.{AllByRecursion}
+use Rattle.std.proofs.Common.{◌≡◌, ◌⊎◌, ℕ, ◌+◌, ◌-◌, ◌*◌, ◌/◌, ◌%◌, ◌^◌, ◌<◌, ◌≤◌, Bool, true, false, List, length, replicate, get_or, ◌∙◌, Option, Some, None, refl, sym, subst, arith}
+use Rattle.std.proofs.Math.Nat.{mul-le-mul_right}
+use Rattle.std.proofs.lemmas.List.{get_or-replicate, length-replicate}
 use Rattle.zd_model.specs.History.{IsLegal}
 use Rattle.zd_model.specs.Image.{Image, Same}
 use Rattle.zd_model.specs.Plain.Answer.{Done, Fault}
@@ -16,15 +17,19 @@ use Rattle.zd_sets.specs.Blocks.{blocks_of}
 use Rattle.zd_sets.specs.Equal.{head_at}
 use Rattle.zd_sets.specs.Stages.{next_head}
 use Rattle.zd_sets.specs.Writes.{WroteBlock}
+use Rattle.zd_sets.proofs.StageWrites.{next_has_block}
 use Rattle.zd_volume.specs.CommitCalls.{FlushesOnce, WritesBlock, WritesSuper}
-use Rattle.zd_volume.specs.Commits.{after_call, after_end, after_failed, AreFlushes, flush_entries, IsPhaseAfter}
+use Rattle.zd_volume.specs.Commits.{after_call, after_end, after_failed, AreFlushes, EndsLimbo, flush_entries, IsLastCall, IsPhaseAfter}
 use Rattle.zd_volume.specs.Phases.{after_block, after_flush, after_super, block_phase, first_zone, IsInnerFlush, IsNextDirty, super_phase}
 use Rattle.zd_volume.specs.Sets.{second}
-use Rattle.zd_volume.specs.Volumes.{IsKeptVolume, PlainVolume, sets_of}
+use Rattle.zd_volume.specs.Uses.{AreUsed, IsNamedFlags, IsPhase}
+use Rattle.zd_volume.specs.Volumes.{IsFixed, IsKeptVolume, PlainVolume, sets_of}
 use Rattle.zd_volume.specs.declared.phase.Phase.{Phase}
 use Rattle.zd_volume.specs.declared.phase.Phase.TheVariants.{Idle, Log, LogFlush, LogSuper, LogSuperFlush, InPlace, InPlaceFlush, InPlaceSuper, InPlaceSuperFlush}
 use Rattle.zd_volume.proofs.CommitEnds.{EndsAs, IsAtEnd, kept_end}
-use Rattle.zd_volume.proofs.CommitSteps.{block_meta, kept_block, kept_flush, kept_super, super_meta}
+use Rattle.zd_volume.proofs.CallsLeft.{none_dirty}
+use Rattle.zd_volume.proofs.CommitSteps.{block_meta, is_super, kept_block, kept_flush, kept_super, super_meta}
+use Rattle.zd_volume.proofs.EndUses.{ended_sets, flags_named, job_ended, used_ended}
 use Rattle.zd_volume.proofs.Flushes.{kept_flush_failed}
 use Rattle.zd_volume.proofs.InPhases.{by_next, next_more}
 use Rattle.zd_volume.proofs.LegalEntries.{done_entries, failed_entries, legal_flushes_done, legal_flushes_failed}
@@ -138,3 +143,45 @@ module _ (v : PlainVolume) (opening d e : View) (runs : v.stopped ≡ None) (was
         (flush_entries Done (next_count v.since) pieces) legal was.counted.by_now (was.calm runs) (next_more v.since)
         (done_entries (next_count v.since) pieces all))
         turns call durable
+
+-- WHAT THE CODE NEEDS. The next super block of either set has a block
+pub next_super : (v : PlainVolume) → IsFixed v → (in_place : Bool) → v.phase ≡ super_phase in_place
+    → HasBlock (head_at v.geometry (first_zone in_place (second (sets_of v))) (next_head v.head))
+next_super v fixed in_place phase =
+    next_has_block v.geometry (first_zone in_place (second (sets_of v))) v.head fixed.sets.sizes
+    (let g = is_super in_place v.dirty v.head.generation
+    (subst (λ (p : Phase). IsPhase p v.dirty v.head.generation) phase fixed.under_way) in omega (arith, g))
+    (own_fits in_place)
+  where
+    room : second (sets_of v) < v.geometry.conv
+    room = (let r = fixed.sets.fits.conventional_data in omega arith)
+
+    own_fits : (in_place : Bool) → first_zone in_place (second (sets_of v)) * v.geometry.zone_blocks < 2 ^ 64
+    own_fits true = omega arith
+    own_fits false =
+        let most = fixed.sets.shape.count.most in
+        let few = fixed.sets.shape.size.most in
+        let r = room in
+        let below : second (sets_of v) ≤ 65536 = omega (arith, most, r) in
+        let less = mul-le-mul_right v.geometry.zone_blocks below in
+        omega (arith, less, few)
+
+-- the last flush, by the call that is left
+pub at_end : (v : PlainVolume) (alone : Bool) → IsLastCall alone v.phase v.dirty → IsAtEnd v alone
+at_end v true last = record { phase = last.0; none = λ _. none_dirty v.dirty 1 last.1 }
+at_end v false last = record { phase = last; none = λ no. absurd (let f : ⊥ = cc in f) }
+
+pub ends_as : (v : PlainVolume) → IsFixed v → (named : List Bool) (division : Division)
+    → EndsLimbo v.division division → IsNamedFlags division v.job named
+    → EndsAs v (replicate (length v.dirty) false) named division
+ends_as v fixed named division limbo flags = record {
+  size = length-replicate (length v.dirty) false ∙ fixed.flags.size;
+  front = get_or-replicate (length v.dirty) 0 false true (let s = fixed.flags.size in omega (arith, s));
+  uses = uses;
+  names = flags_named (ended_sets v.head.generation (sets_of v)) v.pointers v.job division named uses
+      (job_ended (sets_of v) v.head.generation v.pointers v.job fixed.job) flags;
+  order = limbo.order;
+}
+  where
+    uses : AreUsed (ended_sets v.head.generation (sets_of v)) v.job division
+    uses = used_ended (sets_of v) v.head.generation v.job v.division division limbo.zones limbo.conv limbo.order fixed.uses
