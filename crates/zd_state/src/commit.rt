@@ -2,10 +2,12 @@
 
 ghost use Rattle.std.specs.Prelude.{◌≡◌, ◌+◌, ◌≤◌, ◌<◌, None, Some, length};
 ghost use Rattle.zd_state.specs.Seen.{SameSession};
-ghost use Rattle.zd_volume.specs.CommitCalls.{FlushesOnce, StopsByDevice, WritesBlock, WritesSuper};
+ghost use Rattle.zd_volume.specs.CommitCalls.{FlushesOnce, IsBlockDue, MakesCommitCall};
+ghost use Rattle.zd_volume.specs.CommitCalls.{StopsByDevice, WritesBlock, WritesSuper};
 ghost use Rattle.zd_volume.specs.Commits.{AreFlushes, CommitStep, IsLastCall};
 ghost use Rattle.zd_volume.specs.Phases.{IsInnerFlush, after_block, after_flush, after_super};
-ghost use Rattle.zd_volume.specs.Phases.{block_phase, first_zone, super_phase};
+ghost use Rattle.zd_volume.specs.Phases.{first_zone, super_phase};
+ghost use Rattle.zd_volume.specs.declared.phase.Phase.TheVariants.{Idle};
 ghost use Rattle.zd_volume.specs.Sets.{second};
 ghost use Rattle.zd_volume.specs.Volumes.{sets_of};
 
@@ -52,10 +54,11 @@ fn flush_after(phase: Phase, next: Option<u32>) -> Phase
 }
 
 impl<D: ZonedDisk> Volume<D> {
-    /// Writes block `k` to set 1, or to set 0 in place.
+    /// Writes block `k`, which is due, to set 1, or to set 0 in place.
+    #[tactic(auto, using(zd_volume::proofs::CodeCalls::due_inside))]
     fn put_block(&mut self, in_place: bool, k: u32, flushes: &[Piece]) -> Committed
         requires running { self.old.plain.stopped ≡ None }
-        requires phase { self.old.plain.phase ≡ block_phase in_place k }
+        requires due { IsBlockDue in_place self.old.plain k }
         requires flushes { AreFlushes flushes.now }
         requires spare { length flushes.now ≤ self.old.spare }
         ensures step { CommitStep self.old.plain self.new.plain flushes.now result }
@@ -138,5 +141,54 @@ impl<D: ZonedDisk> Volume<D> {
         }
         self.state.end(alone, flushes);
         Committed::Ended
+    }
+
+    /// Makes the first call of a commit: that of its first block, or one flush where nothing is dirty. At
+    /// the last generation a commit with dirty blocks makes none.
+    fn begin(&mut self, flushes: &[Piece]) -> Committed
+        requires running { self.old.plain.stopped ≡ None }
+        requires phase { self.old.plain.phase ≡ Idle }
+        requires flushes { AreFlushes flushes.now }
+        requires spare { length flushes.now ≤ self.old.spare }
+        ensures step { CommitStep self.old.plain self.new.plain flushes.now result }
+        ensures call { MakesCommitCall result self.old.plain (D.view self.old.disk) (D.view self.new.disk) }
+        ensures same { SameSession (length flushes.now) self.old self.new }
+        ensures cause { StopsByDevice result (D.view self.old.disk) (D.view self.new.disk) }
+    {
+        let Some(k) = self.state.next_dirty(1) else {
+            return self.flush_last(true, flushes);
+        };
+        if self.state.is_last_generation() {
+            self.state.stop();
+            return Committed::Stopped(Why::Generation);
+        }
+        self.put_block(false, k, flushes)
+    }
+
+    /// Makes the next call of a commit: of the one that is under way, else of one that begins.
+    ///
+    /// `flushes` are the flushes that wait, each of which is a whole request. With the last call they are
+    /// entered as done, and all that was entered before outlasts a stop. `Stopped(Device)` comes only where
+    /// the disk failed, and enters them as failed. `Stopped(Generation)` comes exactly where blocks are dirty
+    /// at the last generation and no commit is under way: no call is made and nothing is entered. Either
+    /// way the volume is stopped.
+    pub fn commit_one(&mut self, flushes: &[Piece]) -> Committed
+        requires running { self.old.plain.stopped ≡ None }
+        requires flushes { AreFlushes flushes.now }
+        requires spare { length flushes.now ≤ self.old.spare }
+        ensures step { CommitStep self.old.plain self.new.plain flushes.now result }
+        ensures call { MakesCommitCall result self.old.plain (D.view self.old.disk) (D.view self.new.disk) }
+        ensures same { SameSession (length flushes.now) self.old self.new }
+        ensures cause { StopsByDevice result (D.view self.old.disk) (D.view self.new.disk) }
+    {
+        match self.state.phase() {
+            Phase::Idle => self.begin(flushes),
+            Phase::Log(k) => self.put_block(false, k, flushes),
+            Phase::LogSuper => self.put_super(false, flushes),
+            Phase::InPlace(k) => self.put_block(true, k, flushes),
+            Phase::InPlaceSuper => self.put_super(true, flushes),
+            Phase::InPlaceSuperFlush => self.flush_last(false, flushes),
+            Phase::LogFlush | Phase::LogSuperFlush | Phase::InPlaceFlush => self.flush_inside(flushes),
+        }
     }
 }

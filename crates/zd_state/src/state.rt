@@ -1,6 +1,7 @@
 //! The values of a volume, without its disk.
 
-ghost use Rattle.std.specs.Prelude.{◌≡◌, ◌+◌, ◌*◌, ◌<◌, ◌≤◌, ◌^◌, ◌-◌, length, replicate, false};
+ghost use Rattle.std.specs.Prelude.{◌≡◌, ◌+◌, ◌*◌, ◌<◌, ◌≤◌, ◌^◌, ◌-◌, ◌↔◌, length, replicate, false, IsTrue, Some};
+ghost use Rattle.zd_base.specs.declared.numbers.Why.TheVariants.{Generation};
 ghost use Rattle.zd_sets.specs.Blocks.{blocks_of};
 ghost use Rattle.zd_disk.specs.Told.{next_count};
 ghost use Rattle.zd_model.specs.Plain.{Answer as answers};
@@ -182,5 +183,19 @@ impl VolumeState {
         self.alloc.end_limbo();
         marks::flag_named(&mut self.named, &self.alloc, self.job);
         marks::enter_flushes(&mut self.history, flushes, true, self.since);
+    }
+
+    /// Whether there is no next generation.
+    pub(crate) fn is_last_generation(&self) -> bool
+        ensures { IsTrue result ↔ (self.now.plain.head.generation ≡ 2 ^ 64 - 1) }
+    {
+        self.head.generation == u64::MAX
+    }
+
+    /// There is no next generation.
+    pub(crate) fn stop(&mut self)
+        ensures { self.new ≡ record self.old { plain = record self.old.plain { stopped = Some Generation } } }
+    {
+        self.stopped = Some(Why::Generation);
     }
 }

@@ -1,6 +1,7 @@
 -- The calls of a commit as code makes them: what it keeps, and that it is a step of a commit.
-use Rattle.std.proofs.Common.{◌≡◌, ◌⊎◌, ℕ, ◌+◌, ◌-◌, ◌*◌, ◌/◌, ◌%◌, ◌^◌, ◌<◌, ◌≤◌, Bool, true, false, List, length, replicate, get_or, ◌∙◌, Option, Some, None, refl, sym, subst, arith}
+use Rattle.std.proofs.Common.{◌≡◌, ◌⊎◌, ℕ, ◌+◌, ◌-◌, ◌*◌, ◌/◌, ◌%◌, ◌^◌, ◌<◌, ◌≤◌, Bool, true, false, List, length, replicate, get_or, ◌∙◌, Option, Some, None, inl, inr, refl, sym, subst, arith}
 use Rattle.std.proofs.Math.Nat.{mul-le-mul_right}
+use Rattle.std.proofs.lemmas.Bool.{cases_eq}
 use Rattle.std.proofs.lemmas.List.{get_or-replicate, length-replicate}
 use Rattle.zd_model.specs.History.{IsLegal}
 use Rattle.zd_model.specs.Image.{Image, Same}
@@ -18,16 +19,20 @@ use Rattle.zd_sets.specs.Equal.{head_at}
 use Rattle.zd_sets.specs.Stages.{next_head}
 use Rattle.zd_sets.specs.Writes.{WroteBlock}
 use Rattle.zd_sets.proofs.StageWrites.{next_has_block}
-use Rattle.zd_volume.specs.CommitCalls.{FlushesOnce, WritesBlock, WritesSuper}
-use Rattle.zd_volume.specs.Commits.{after_call, after_end, after_failed, AreFlushes, EndsLimbo, flush_entries, IsLastCall, IsPhaseAfter}
+use Rattle.zd_base.specs.declared.numbers.Why.{Why}
+use Rattle.zd_volume.specs.CommitCalls.{FlushesOnce, IsBlockDue, MakesCommitCall, MakesPhaseCall, WritesBlock, WritesSuper}
+use Rattle.zd_volume.specs.Commits.{after_call, after_end, after_failed, AreFlushes, CommitStep, EndsLimbo, flush_entries, IsLastCall, IsPhaseAfter}
 use Rattle.zd_volume.specs.Phases.{after_block, after_flush, after_super, block_phase, first_zone, IsInnerFlush, IsNextDirty, super_phase}
-use Rattle.zd_volume.specs.Sets.{second}
-use Rattle.zd_volume.specs.Uses.{AreUsed, IsNamedFlags, IsPhase}
+use Rattle.zd_volume.specs.Sets.{second, used}
+use Rattle.zd_volume.specs.Uses.{AreUsed, dirty_from, IsDirtyBlock, IsNamedFlags, IsPhase}
+use Rattle.zd_volume.proofs.Choices.{first_set, second_set}
 use Rattle.zd_volume.specs.Volumes.{IsFixed, IsKeptVolume, PlainVolume, sets_of}
+use Rattle.zd_volume.specs.declared.phase.Committed.{Committed}
 use Rattle.zd_volume.specs.declared.phase.Phase.{Phase}
 use Rattle.zd_volume.specs.declared.phase.Phase.TheVariants.{Idle, Log, LogFlush, LogSuper, LogSuperFlush, InPlace, InPlaceFlush, InPlaceSuper, InPlaceSuperFlush}
+use Rattle.zd_volume.proofs.CommitStarts.{kept_begin, kept_unphased}
 use Rattle.zd_volume.proofs.CommitEnds.{EndsAs, IsAtEnd, kept_end}
-use Rattle.zd_volume.proofs.CallsLeft.{none_dirty}
+use Rattle.zd_volume.proofs.CallsLeft.{dirty_more, dirty_next, none_dirty}
 use Rattle.zd_volume.proofs.CommitSteps.{block_meta, is_super, kept_block, kept_flush, kept_super, super_meta}
 use Rattle.zd_volume.proofs.EndUses.{ended_sets, flags_named, job_ended, used_ended}
 use Rattle.zd_volume.proofs.Flushes.{kept_flush_failed}
@@ -42,11 +47,6 @@ turns_wrote z k bytes d e turns = record {
 }
 
 -- the phase that comes next
-pub phase_after_block : (in_place : Bool) (k : ℕ) (next : Option ℕ) (dirty : List Bool) → IsNextDirty dirty (k + 1) next
-    → IsPhaseAfter dirty (block_phase in_place k) (after_block in_place next)
-phase_after_block true k next dirty is = (next, is, refl)
-phase_after_block false k next dirty is = (next, is, refl)
-
 pub phase_after_super : (in_place : Bool) (dirty : List Bool)
     → IsPhaseAfter dirty (super_phase in_place) (after_super in_place)
 phase_after_super true dirty = refl
@@ -185,3 +185,103 @@ ends_as v fixed named division limbo flags = record {
   where
     uses : AreUsed (ended_sets v.head.generation (sets_of v)) v.job division
     uses = used_ended (sets_of v) v.head.generation v.job v.division division limbo.zones limbo.conv limbo.order fixed.uses
+
+-- A BLOCK THAT IS DUE, in its phase or as the first of a commit
+pub due_block : (v : PlainVolume) (in_place : Bool) (k : ℕ) → IsFixed v → IsBlockDue in_place v k
+    → IsDirtyBlock v.dirty k v.head.generation
+due_block v true k fixed due = subst (λ (p : Phase). IsPhase p v.dirty v.head.generation) due fixed.under_way
+due_block v false k fixed (inl phase) =
+    subst (λ (p : Phase). IsPhase p v.dirty v.head.generation) phase fixed.under_way
+due_block v false k fixed (inr begins) =
+    let first = begins.1 in (omega (arith, first.1), first.0, first.3, begins.2)
+
+pub due_inside : (v : PlainVolume) (in_place : Bool) (k : ℕ) → IsFixed v → IsBlockDue in_place v k
+    → (k < used (sets_of v)) × (first_zone in_place (second (sets_of v)) + k / v.geometry.zone_blocks < v.geometry.conv)
+due_inside v in_place k fixed due =
+    let low : k < used (sets_of v) = (let b = (due_block v in_place k fixed due).1 in
+    let size = fixed.flags.size in omega (arith, b, size)) in
+    (low, zone in_place low)
+  where
+    zone : (in_place : Bool) → k < used (sets_of v)
+        → first_zone in_place (second (sets_of v)) + k / v.geometry.zone_blocks < v.geometry.conv
+    zone true low = (first_set (sets_of v) fixed.sets).inside k low
+    zone false low = (second_set (sets_of v) fixed.sets).inside k low
+
+pub phase_after_due : (v : PlainVolume) (in_place : Bool) (k : ℕ) (next : Option ℕ) → IsBlockDue in_place v k
+    → IsNextDirty v.dirty (k + 1) next → IsPhaseAfter v.dirty v.phase (after_block in_place next)
+phase_after_due v true k next due is =
+    subst (λ (p : Phase). IsPhaseAfter v.dirty p (after_block true next)) (sym due) (next, is, refl)
+phase_after_due v false k next (inl phase) is =
+    subst (λ (p : Phase). IsPhaseAfter v.dirty p (after_block false next)) (sym phase) (next, is, refl)
+phase_after_due v false k next (inr begins) is =
+    subst (λ (p : Phase). IsPhaseAfter v.dirty p (after_block false next)) (sym begins.0) (k, next, begins.1, is, refl)
+
+module _ (v : PlainVolume) (opening d e : View) (runs : v.stopped ≡ None) (was : IsKeptVolume v opening d) (k : ℕ)
+    (next : Option ℕ) (is : IsNextDirty v.dirty (k + 1) next) where
+  begun : IsNextDirty v.dirty 1 (Some k) → v.phase ≡ Idle → v.head.generation < 2 ^ 64 - 1
+      → IsKeptVolume (record v { phase = Log k }) opening d
+  begun first idle small = kept_begin v k opening d was idle first small
+
+  pub due_made : (in_place : Bool) → IsBlockDue in_place v k
+      → WritesBlock v (first_zone in_place (second (sets_of v))) k d e
+      → Turns (WroteBlock (first_zone in_place (second (sets_of v)) + k / v.geometry.zone_blocks)
+        (k % v.geometry.zone_blocks) (blocks_of v.fresh k 1)) d e
+      → IsKeptVolume (after_call v (after_block in_place next) (next_count v.since) v.stopped) opening e
+  due_made true due call turns = block_made v opening d e runs was true k next due is call turns
+  due_made false (inl phase) call turns = block_made v opening d e runs was false k next phase is call turns
+  due_made false (inr begins) call turns =
+      block_made (record v { phase = Log k }) opening d e runs (begun begins.1 begins.0 begins.2) false k next refl is
+      call turns
+
+  pub due_failed : (in_place : Bool) → IsBlockDue in_place v k
+      → WritesBlock v (first_zone in_place (second (sets_of v))) k d e
+      → (pieces : List Piece) → AreFlushes pieces → HasFailed d e
+      → Turns (λ i. WriteStep i (first_zone in_place (second (sets_of v)) + k / v.geometry.zone_blocks)
+        (8 * (k % v.geometry.zone_blocks)) (blocks_of v.fresh k 1) i) d e
+      → IsKeptVolume (after_failed v pieces) opening e
+  due_failed true due call pieces all rose turns =
+      block_failed v opening d e runs was true k next due is call pieces all rose turns
+  due_failed false (inl phase) call pieces all rose turns =
+      block_failed v opening d e runs was false k next phase is call pieces all rose turns
+  due_failed false (inr begins) call pieces all rose turns =
+      kept_unphased (after_failed (record v { phase = Log k }) pieces) v.phase Why.Device opening e begins.0 refl
+      (block_failed (record v { phase = Log k }) opening d e runs (begun begins.1 begins.0 begins.2) false k next refl is
+      call pieces all rose turns)
+
+-- WHICH CALL a step made: only at the last generation none
+pub phase_call : (v w : PlainVolume) (pieces : List Piece) (result : Committed) (d e : View)
+    → (v.head.generation < 2 ^ 64 - 1) ⊎ (dirty_from v.dirty 1 ≡ 0) → CommitStep v w pieces result
+    → MakesPhaseCall v.phase v d e → MakesCommitCall result v d e
+phase_call v w pieces Committed.More d e small step call = call
+phase_call v w pieces Committed.Ended d e small step call = call
+phase_call v w pieces (Committed.Stopped Why.Device) d e small step call = call
+phase_call v w pieces (Committed.Stopped Why.Memory) d e small step call = call
+phase_call v w pieces (Committed.Stopped Why.Generation) d e (inl small) step call = absurd (omega (arith, small, step.2))
+phase_call v w pieces (Committed.Stopped Why.Generation) d e (inr none) step call = absurd (omega (arith, none, step.1))
+
+pub due_call : (v : PlainVolume) (in_place : Bool) (k : ℕ) (d e : View) → IsBlockDue in_place v k
+    → WritesBlock v (first_zone in_place (second (sets_of v))) k d e → MakesPhaseCall v.phase v d e
+due_call v true k d e due call = subst (λ (p : Phase). MakesPhaseCall p v d e) (sym due) call
+due_call v false k d e (inl phase) call = subst (λ (p : Phase). MakesPhaseCall p v d e) (sym phase) call
+due_call v false k d e (inr begins) call =
+    subst (λ (p : Phase). MakesPhaseCall p v d e) (sym begins.0) (inr (k, begins.1, call))
+
+pub alone_call : (v : PlainVolume) (d e : View) → v.phase ≡ Idle → dirty_from v.dirty 1 ≡ 0 → FlushesOnce d e
+    → MakesPhaseCall v.phase v d e
+alone_call v d e idle none call = subst (λ (p : Phase). MakesPhaseCall p v d e) (sym idle) (inl (none, call))
+
+-- there is a next generation
+pub generation_left : (v : PlainVolume) → IsFixed v → (v.head.generation ≡ 2 ^ 64 - 1 → ⊥) → v.head.generation < 2 ^ 64 - 1
+generation_left v fixed other =
+    let low = fixed.sets.sizes.generation in
+    elim (cases_eq v.head.generation (2 ^ 64 - 1)) [
+      | inl last ↦ absurd (other last)
+      | inr less ↦ omega (arith, low, less)
+    ]
+
+-- a block is dirty
+pub some_dirty : (dirty : List Bool) (k : ℕ) → IsNextDirty dirty 1 (Some k) → 0 < dirty_from dirty 1
+some_dirty dirty k is =
+    let same = dirty_next dirty 1 k is in
+    let more = dirty_more dirty k is.0 is.3 in
+    omega (arith, same, more)

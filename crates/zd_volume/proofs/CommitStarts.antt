@@ -1,5 +1,5 @@
 -- A commit begins, or cannot: steps without a call.
-use Rattle.std.proofs.Common.{◌≡◌, ℕ, ◌+◌, ◌-◌, ◌^◌, ◌<◌, ◌≤◌, List, Option, Some, None, refl, subst, arith}
+use Rattle.std.proofs.Common.{◌≡◌, ℕ, ◌+◌, ◌-◌, ◌^◌, ◌<◌, ◌≤◌, List, Option, Some, None, refl, sym, ◌∙◌, subst, arith}
 use Rattle.zd_base.specs.declared.numbers.Why.{Why}
 use Rattle.zd_model.specs.Safe.{base_at}
 use Rattle.zd_disk.specs.View.{View}
@@ -8,6 +8,7 @@ use Rattle.zd_volume.specs.FaultCounts.{CountsFaults}
 use Rattle.zd_volume.specs.LeftImages.{MayBeLeft, ReadsAs}
 use Rattle.zd_volume.specs.Phases.{IsNextDirty}
 use Rattle.zd_volume.specs.Sets.{Sets, second, used}
+use Rattle.zd_volume.specs.Uses.{IsPhase}
 use Rattle.zd_volume.specs.Volumes.{IsKeptVolume, PlainVolume, sets_of}
 use Rattle.zd_volume.specs.declared.phase.Phase.{Phase}
 use Rattle.zd_volume.specs.declared.phase.Phase.TheVariants.{Idle, Log}
@@ -98,5 +99,37 @@ kept_stopped v opening d was = record {
   legal = was.legal;
   reads = λ x. absurd (let f : ⊥ = cc in f);
   stops = λ x. absurd (let f : ⊥ = cc in f);
+  safe = was.safe;
+}
+
+-- the phase of a volume that the disk has stopped says nothing
+pub kept_unphased : (v : PlainVolume) (p : Phase) (why : Why) (opening d : View) → p ≡ Idle → v.stopped ≡ Some why
+    → IsKeptVolume v opening d → IsKeptVolume (record v { phase = p }) opening d
+kept_unphased v p why opening d idle halted was = record {
+  tells = was.tells;
+  fixed = record {
+    sets = was.fixed.sets;
+    flags = was.fixed.flags;
+    under_way = subst (λ (q : Phase). IsPhase q v.dirty v.head.generation) (sym idle) tt;
+    uses = was.fixed.uses;
+    named = was.fixed.named;
+    pointers = was.fixed.pointers;
+    candidates = was.fixed.candidates;
+    job = was.fixed.job;
+    room = was.fixed.room;
+  };
+  counted = record {
+    few = was.counted.few;
+    later = was.counted.later;
+    count = was.counted.count;
+    generation = was.counted.generation;
+    by_now = was.counted.by_now;
+  };
+  faulted = was.faulted;
+  calm = was.calm;
+  based = was.based;
+  legal = was.legal;
+  reads = λ runs. absurd (let no : None ≡ Some why = sym runs ∙ halted in let f : ⊥ = cc in f);
+  stops = λ runs. absurd (let no : None ≡ Some why = sym runs ∙ halted in let f : ⊥ = cc in f);
   safe = was.safe;
 }

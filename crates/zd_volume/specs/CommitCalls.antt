@@ -1,5 +1,5 @@
 -- Which call of the disk a step of a commit makes.
-use Rattle.std.specs.Prelude.{◌≡◌, ◌⊎◌, ℕ, ◌+◌, ◌*◌, ◌/◌, ◌%◌, Some}
+use Rattle.std.specs.Prelude.{◌≡◌, ◌⊎◌, ℕ, ◌+◌, ◌-◌, ◌*◌, ◌/◌, ◌%◌, ◌^◌, ◌<◌, Some, Bool, true, false}
 use Rattle.zd_base.specs.declared.numbers.Why.{Why}
 use Rattle.zd_model.specs.Image.{Same}
 use Rattle.zd_model.specs.Super.{block_of}
@@ -59,3 +59,11 @@ MakesCommitCall result v d e = MakesPhaseCall v.phase v d e
 -- where a step stops the volume as a failure of the disk, the disk's count of faults rose
 abbrev pub StopsByDevice : Committed → View → View → Type 0
 StopsByDevice result d e = result ≡ Committed.Stopped Why.Device → HasFailed d e
+
+-- block k is the one that is written next, to set 1 or to set 0 in place; to set 1 also where the commit
+-- begins with it
+abbrev pub IsBlockDue : Bool → PlainVolume → ℕ → Type 0
+IsBlockDue false v k =
+    (v.phase ≡ Log k)
+    ⊎ ((v.phase ≡ Idle) × IsNextDirty v.dirty 1 (Some k) × (v.head.generation < 2 ^ 64 - 1))
+IsBlockDue true v k = v.phase ≡ InPlace k
