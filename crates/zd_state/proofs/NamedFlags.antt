@@ -50,7 +50,7 @@ flags_first g t flags is = record {
   size = ap (λ (f : List Bool). length f) is ∙ length-replicate (zone_count g) false;
   each = λ z low. (
     (λ up. absurd (false≢true (sym (get_or-replicate (zone_count g) z false false low)
-    ∙ sym (ap (λ (f : List Bool). get_or f z false) is) ∙ up))),
+        ∙ sym (ap (λ (f : List Bool). get_or f z false) is) ∙ up))),
     (λ n. absurd (let below = n.1 in let f : ⊥ = omega (arith, below) in f)),
   );
 }

@@ -1,5 +1,4 @@
 use Rattle.std.proofs.Common.{sym, subst}
-use Rattle.zd_disk.specs.View.{View}
 use Rattle.zd_state.proofs.StartValues.{kept_started}
 use Rattle.zd_volume.specs.Volumes.{IsKeptVolume}
 use Rattle.zd_state.proofs.volume.Volume.start.Goals as goal
