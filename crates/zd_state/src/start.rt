@@ -3,7 +3,7 @@
 ghost use Rattle.std.specs.Prelude.{◌≡◌, ℕ, ◌*◌, ◌<◌, Some, length, replicate, false, IfOk, IfErr, IfSome};
 ghost use Rattle.zd_base.specs.Geometry.{zone_count};
 ghost use Rattle.zd_base.specs.Layout.{Fits, used_blocks};
-ghost use Rattle.zd_model.specs.Super.{HasBlock};
+ghost use Rattle.zd_model.specs.Super.{FitsVersion, HasBlock};
 ghost use Rattle.zd_state.specs.Started.{ClassesBelow, FlagNamedBelow, IsStarted, IsStartedVolume, raised};
 ghost use Rattle.zd_tables.specs.Held.{tables_held};
 ghost use Rattle.zd_tables.specs.Rules.{FollowRules};
@@ -99,6 +99,15 @@ fn all_candidates(
     Ok(candidates)
 }
 
+/// A head has fields of their sizes.
+fn sized(head: Super) -> Super
+    requires { FitsVersion head }
+    ensures value { result ≡ head }
+    ensures sizes { HasBlock result }
+{
+    head
+}
+
 /// The values of a volume that starts.
 fn start_values(
     alloc: Global,
@@ -154,7 +163,7 @@ impl<D: ZonedDisk> Volume<D> {
     ) -> Result<Volume<D>, (Memory, D)>
         requires told { (D.view disk).told ≡ Some geometry }
         requires fits { Fits geometry chosen.head.layout }
-        requires head { HasBlock chosen.head }
+        requires version { FitsVersion chosen.head }
         requires size { length blocks ≡ 4096 * used_blocks geometry chosen.head.layout }
         requires rules { FollowRules geometry chosen.head.layout blocks }
         requires pointers { length pointers.items ≡ zone_count geometry }
@@ -164,7 +173,8 @@ impl<D: ZonedDisk> Volume<D> {
         ensures err { IfErr result (λ e. e.1 ≡ disk) }
     {
         let _zone_blocks = geometry.zone_blocks();
-        match start_values(alloc, geometry, chosen.head, blocks, pointers) {
+        let head = sized(chosen.head);
+        match start_values(alloc, geometry, head, blocks, pointers) {
             Ok(state) => Ok(Volume {
                 opening: Snapshot::of(&disk),
                 disk,
