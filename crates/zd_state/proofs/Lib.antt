@@ -1,0 +1,4 @@
+pub mod EntryZones
+pub mod NamedFlags
+pub mod StartClasses
+pub mod StartValues

@@ -1,8 +1,10 @@
 //! A mounted volume: its values in memory, its disk, and the primitives that change both.
 #![tactic(auto)]
 
+mod classes;
 mod commit;
 mod marks;
+mod start;
 mod state;
 mod volume;
 
