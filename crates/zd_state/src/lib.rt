@@ -3,6 +3,7 @@
 
 mod commit;
 mod marks;
+mod readers;
 mod state;
 mod volume;
 

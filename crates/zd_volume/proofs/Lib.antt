@@ -24,3 +24,4 @@ pub mod CallsLeft
 pub mod EndUses
 pub mod FixedStart
 pub mod AbandonLaws
+pub mod ServesLaws
