@@ -25,3 +25,4 @@ pub mod EndUses
 pub mod FixedStart
 pub mod AbandonLaws
 pub mod ServesLaws
+pub mod EntryKeeps

@@ -9,3 +9,4 @@ pub mod Starts
 pub mod Commits
 pub mod CommitCalls
 pub mod Abandons
+pub mod Flights
