@@ -26,3 +26,4 @@ pub mod FixedStart
 pub mod AbandonLaws
 pub mod ServesLaws
 pub mod EntryKeeps
+pub mod FlightLaws

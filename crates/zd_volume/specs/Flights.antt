@@ -64,17 +64,21 @@ pub record IsPieceIn (v : PlainVolume) (p : Piece) : Type 0 where
 abbrev pub sectors_within : What → ℕ → ℕ
 sectors_within what blocks = min (sector_count what) (8 * blocks - first_sector what % 8)
 
--- A READ UNDER WAY: it has all bytes that it takes of the blocks that are read, as the volume serves
--- them, and room for the others
-pub record IsFlight (v : PlainVolume) (told : Option Image) (f : Flight) : Type 0 where
-  pub reads : operation_of f.piece.what ≡ Reading
-  pub piece : IsPieceIn v f.piece
-  pub more : f.done < block_count f.piece.what
+-- a read has all bytes that it takes of the blocks that are read, as the volume serves them, and room
+-- for the others
+pub record HasRead (v : PlainVolume) (told : Option Image) (f : Flight) : Type 0 where
   pub size : length f.bytes.items ≡ 512 * sectors_within f.piece.what f.done
   pub bytes : WhereTold told (λ i. f.bytes.items ≡ concat (slice_range (serves v i)
       (first_sector f.piece.what)
       (first_sector f.piece.what + sectors_within f.piece.what f.done)))
   pub room : 512 * sector_count f.piece.what ≤ length f.bytes.items + f.bytes.room
+
+-- A READ UNDER WAY, of which blocks are left
+pub record IsFlight (v : PlainVolume) (told : Option Image) (f : Flight) : Type 0 where
+  pub reads : operation_of f.piece.what ≡ Reading
+  pub piece : IsPieceIn v f.piece
+  pub more : f.done < block_count f.piece.what
+  pub read : HasRead v told f
 
 -- so many blocks from the next one on have this place, before the end of the piece or a block that has
 -- another one
@@ -89,16 +93,30 @@ abbrev pub ReadsAt : Option ℕ → View → View → Type 0
 ReadsAt None u x = ReadsNone u x
 ReadsAt (Some zone) u x = ReadsOnce u x
 
--- A STEP OF A READ. A run was read, and blocks are left: nothing of the volume changes
-pub record ReadsOn (v w : PlainVolume) (u x : View) (old new : Flight) : Type 0 where
+-- one run more was read
+pub record ReadsRun (v : PlainVolume) (u x : View) (old new : Flight) : Type 0 where
   pub zone : Option ℕ
   pub count : ℕ
   pub run : IsRunOfRead v old zone count
   pub calls : ReadsAt zone u x
-  pub volume : w ≡ v
   pub piece : new.piece ≡ old.piece
   pub done : new.done ≡ old.done + count
+  pub read : HasRead v u.zones new
+
+-- the call for a run failed
+pub record FailsRun (v : PlainVolume) (u x : View) (old new : Flight) : Type 0 where
+  pub zone : ℕ
+  pub count : ℕ
+  pub run : IsRunOfRead v old (Some zone) count
+  pub calls : ReadsOnce u x
+  pub failed : HasFailed u x
+  pub piece : new.piece ≡ old.piece
+
+-- A STEP OF A READ. A run was read, and blocks are left: nothing of the volume changes
+pub record GoesOn (v w : PlainVolume) (u x : View) (old new : Flight) : Type 0 where
+  pub run : ReadsRun v u x old new
   pub flight : IsFlight v u.zones new
+  pub volume : w ≡ v
 
 -- the last run was read: the piece is entered with all its bytes, which the flight gives away
 pub record EndsRead (v w : PlainVolume) (u x : View) (old new : Flight) : Type 0 where
@@ -114,14 +132,9 @@ pub record EndsRead (v w : PlainVolume) (u x : View) (old new : Flight) : Type 0
 
 -- the call failed: the piece is entered with Fault
 pub record FailsRead (v w : PlainVolume) (u x : View) (old new : Flight) : Type 0 where
-  pub zone : ℕ
-  pub count : ℕ
-  pub run : IsRunOfRead v old (Some zone) count
-  pub calls : ReadsOnce u x
-  pub failed : HasFailed u x
+  pub run : FailsRun v u x old new
   pub volume : w ≡ with_entry v old.piece Fault
-  pub piece : new.piece ≡ old.piece
 
 abbrev pub ReadStep : PlainVolume → PlainVolume → View → View → Flight → Flight → Ran → Type 0
-ReadStep v w u x old new Ran.More = ReadsOn v w u x old new
+ReadStep v w u x old new Ran.More = GoesOn v w u x old new
 ReadStep v w u x old new Ran.Entered = EndsRead v w u x old new ⊎ FailsRead v w u x old new
