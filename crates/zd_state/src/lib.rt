@@ -2,7 +2,9 @@
 #![tactic(auto)]
 
 mod commit;
+mod entering;
 mod marks;
+mod place;
 mod readers;
 mod state;
 mod volume;
