@@ -27,3 +27,4 @@ pub mod AbandonLaws
 pub mod ServesLaws
 pub mod EntryKeeps
 pub mod FlightLaws
+pub mod FlightSteps
