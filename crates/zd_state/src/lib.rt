@@ -3,8 +3,11 @@
 
 mod classes;
 mod commit;
+mod entering;
 mod marks;
 mod start;
+mod place;
+mod readers;
 mod state;
 mod volume;
 

@@ -5,6 +5,7 @@ ghost use Rattle.zd_volume.specs.Uses.{IsMoved, IsNamedFlags};
 ghost use Rattle.zd_model.specs.Plain.{Answer as answers};
 ghost use Rattle.zd_volume.specs.Commits.{flush_entries};
 ghost use Rattle.zd_volume.specs.Phases.{IsNextDirty};
+ghost use Rattle.zd_volume.specs.Uses.{dirty_from};
 
 use zd_alloc::{Alloc, ZoneUse};
 use zd_base::ZoneNo;
@@ -78,4 +79,18 @@ pub(crate) fn enter_flushes(history: &mut History, flushes: &[Piece], done: bool
         };
         let _entered = history.push(entry);
     }
+}
+
+/// How many flags are set, but for the first.
+pub(crate) fn count_dirty(dirty: &[bool]) -> u32
+    requires few { length dirty.now < 2 ^ 32 }
+    ensures { result ≡ dirty_from dirty.now 1 }
+{
+    let mut count = 0;
+    for i in 1..dirty.len() {
+        if dirty[i] {
+            count += 1;
+        }
+    }
+    count
 }

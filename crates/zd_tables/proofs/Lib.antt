@@ -6,3 +6,5 @@ pub mod GivenLaws
 pub mod TableSteps
 pub mod ZoneCounts
 pub mod TableRules
+pub mod RunPlaces
+pub mod ChunkRuns

@@ -33,6 +33,16 @@ module _ (dirty : List Bool) where
       let one : count_by is_dirty (range_with_len k 1) ≡ 1 = ap {B = ℕ} (λ (b : Bool). 0 + cond b 1 0) is in
       omega (arith, parts, alone, one)
 
+  -- another one is no more
+  pub dirty_less : (k : ℕ) → k < length dirty → get_or dirty k false ≡ false
+      → dirty_from dirty k ≡ dirty_from dirty (k + 1)
+  dirty_less k low is =
+      let parts = count_then is_dirty k (k + 1) (length dirty) (omega arith) (omega (arith, low)) in
+      let single : k + 1 - k ≡ 1 = omega arith in
+      let alone = ap (λ (n : ℕ). count_by is_dirty (range_with_len k n)) single in
+      let none : count_by is_dirty (range_with_len k 1) ≡ 0 = ap {B = ℕ} (λ (b : Bool). 0 + cond b 1 0) is in
+      omega (arith, parts, alone, none)
+
   -- up to the next dirty block there is none
   pub dirty_next : (from k : ℕ) → IsNextDirty dirty from (Some k) → dirty_from dirty from ≡ dirty_from dirty k
   dirty_next from k is =

@@ -35,3 +35,7 @@ pub mod DropCopies
 pub mod DropLaws
 pub mod MarkLaws
 pub mod DropBlocks
+pub mod ServesLaws
+pub mod EntryKeeps
+pub mod FlightLaws
+pub mod FlightSteps

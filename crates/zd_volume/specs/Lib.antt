@@ -11,3 +11,4 @@ pub mod CommitCalls
 pub mod Abandons
 pub mod Marks
 pub mod Discards
+pub mod Flights
