@@ -2,7 +2,7 @@
 
 ghost use Rattle.std.specs.Prelude.{◌≡◌, ◌+◌, ◌≤◌, ◌<◌, None, Some, length};
 ghost use Rattle.zd_state.specs.Seen.{SameSession};
-ghost use Rattle.zd_volume.specs.CommitCalls.{FlushesOnce, IsBlockDue, MakesCommitCall};
+ghost use Rattle.zd_volume.specs.CommitCalls.{EndsDurable, FlushesOnce, IsBlockDue, MakesCommitCall};
 ghost use Rattle.zd_volume.specs.CommitCalls.{StopsByDevice, WritesBlock, WritesSuper};
 ghost use Rattle.zd_volume.specs.Commits.{AreFlushes, CommitStep, IsLastCall};
 ghost use Rattle.zd_volume.specs.Phases.{IsInnerFlush, after_block, after_flush, after_super};
@@ -102,7 +102,7 @@ impl<D: ZonedDisk> Volume<D> {
         Committed::More
     }
 
-    /// Makes a flush inside a commit.
+    /// Makes a flush inside a commit, which isn't the last.
     fn flush_inside(&mut self, flushes: &[Piece]) -> Committed
         requires running { self.old.plain.stopped ≡ None }
         requires phase { IsInnerFlush self.old.plain.phase }
@@ -131,6 +131,7 @@ impl<D: ZonedDisk> Volume<D> {
         requires spare { length flushes.now ≤ self.old.spare }
         ensures step { CommitStep self.old.plain self.new.plain flushes.now result }
         ensures call { FlushesOnce (D.view self.old.disk) (D.view self.new.disk) }
+        ensures durable { EndsDurable result (D.view self.new.disk) }
         ensures same { SameSession (length flushes.now) self.old self.new }
         ensures cause { StopsByDevice result (D.view self.old.disk) (D.view self.new.disk) }
     {
@@ -152,6 +153,7 @@ impl<D: ZonedDisk> Volume<D> {
         requires spare { length flushes.now ≤ self.old.spare }
         ensures step { CommitStep self.old.plain self.new.plain flushes.now result }
         ensures call { MakesCommitCall result self.old.plain (D.view self.old.disk) (D.view self.new.disk) }
+        ensures durable { EndsDurable result (D.view self.new.disk) }
         ensures same { SameSession (length flushes.now) self.old self.new }
         ensures cause { StopsByDevice result (D.view self.old.disk) (D.view self.new.disk) }
     {
@@ -178,6 +180,7 @@ impl<D: ZonedDisk> Volume<D> {
         requires spare { length flushes.now ≤ self.old.spare }
         ensures step { CommitStep self.old.plain self.new.plain flushes.now result }
         ensures call { MakesCommitCall result self.old.plain (D.view self.old.disk) (D.view self.new.disk) }
+        ensures durable { EndsDurable result (D.view self.new.disk) }
         ensures same { SameSession (length flushes.now) self.old self.new }
         ensures cause { StopsByDevice result (D.view self.old.disk) (D.view self.new.disk) }
     {

@@ -4,7 +4,7 @@ use Rattle.zd_base.specs.declared.numbers.Why.{Why}
 use Rattle.zd_model.specs.Image.{Same}
 use Rattle.zd_model.specs.Super.{block_of}
 use Rattle.zd_disk.specs.Steps.{WriteLeaves, WriteStep}
-use Rattle.zd_disk.specs.View.{Calls, HasFailed, OnlyReads, View}
+use Rattle.zd_disk.specs.View.{Calls, HasFailed, IsDurable, OnlyReads, View}
 use Rattle.zd_sets.specs.Blocks.{blocks_of}
 use Rattle.zd_sets.specs.Equal.{head_at}
 use Rattle.zd_sets.specs.Stages.{next_head}
@@ -67,3 +67,7 @@ IsBlockDue false v k =
     (v.phase ≡ Log k)
     ⊎ ((v.phase ≡ Idle) × IsNextDirty v.dirty 1 (Some k) × (v.head.generation < 2 ^ 64 - 1))
 IsBlockDue true v k = v.phase ≡ InPlace k
+
+-- where a step ends a commit, a stop then leaves what the disk reads as alone
+abbrev pub EndsDurable : Committed → View → Type 0
+EndsDurable result e = result ≡ Committed.Ended → IsDurable e

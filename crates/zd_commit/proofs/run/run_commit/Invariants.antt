@@ -1,0 +1,14 @@
+use Rattle.std.proofs.Common.{◌≡◌, None}
+use Rattle.zd_commit.specs.Closed.{IsUnderWay}
+use Rattle.zd_state.specs.Seen.{SameSession}
+use Rattle.zd_volume.specs.Commits.{calls_left}
+use Rattle.zd_commit.proofs.run.run_commit.Given as goal
+
+abbrev pub invariant-loop : goal.invariant-loop
+invariant-loop g l =
+    (l.v.plain.stopped ≡ None)
+    × IsUnderWay l.fn.v.plain l.v.plain (g.D.ZonedDisk.view l.fn.v.disk) (g.D.ZonedDisk.view l.v.disk)
+    × SameSession 0 l.fn.v l.v
+
+abbrev pub decreases-loop : goal.decreases-loop
+decreases-loop g l = calls_left l.v.plain.dirty l.v.plain.phase

@@ -1,0 +1,15 @@
+//! Commits: when one is due, its steps, a whole one, and the closing of a volume.
+//!
+//! # What is proved
+//!
+//! - `due` says exactly whether a commit is due (scope 3.3).
+//! - `step` makes the next call of a commit, exactly one, and none at the last generation.
+//! - A whole commit makes `2 d + 6` writing calls with d dirty blocks, and one with none; with its end a
+//!   stop leaves what the disk reads as alone.
+#![tactic(auto)]
+
+mod due;
+mod run;
+
+pub use due::due;
+pub use run::{run_commit, step};
