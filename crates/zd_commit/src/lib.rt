@@ -8,8 +8,8 @@
 //!   stop leaves what the disk reads as alone.
 #![tactic(auto)]
 
-mod due;
 mod run;
+mod when;
 
-pub use due::due;
 pub use run::{run_commit, step};
+pub use when::due;

@@ -64,6 +64,7 @@ impl<D: ZonedDisk> Volume<D> {
         ensures step { CommitStep self.old.plain self.new.plain flushes.now result }
         ensures call { WritesBlock self.old.plain (first_zone in_place (second (sets_of self.old.plain))) k
             (D.view self.old.disk) (D.view self.new.disk) }
+        ensures durable { EndsDurable result (D.view self.new.disk) }
         ensures same { SameSession (length flushes.now) self.old self.new }
         ensures cause { StopsByDevice result (D.view self.old.disk) (D.view self.new.disk) }
     {
@@ -88,6 +89,7 @@ impl<D: ZonedDisk> Volume<D> {
         ensures step { CommitStep self.old.plain self.new.plain flushes.now result }
         ensures call { WritesSuper self.old.plain (first_zone in_place (second (sets_of self.old.plain)))
             (D.view self.old.disk) (D.view self.new.disk) }
+        ensures durable { EndsDurable result (D.view self.new.disk) }
         ensures same { SameSession (length flushes.now) self.old self.new }
         ensures cause { StopsByDevice result (D.view self.old.disk) (D.view self.new.disk) }
     {
@@ -110,6 +112,7 @@ impl<D: ZonedDisk> Volume<D> {
         requires spare { length flushes.now ≤ self.old.spare }
         ensures step { CommitStep self.old.plain self.new.plain flushes.now result }
         ensures call { FlushesOnce (D.view self.old.disk) (D.view self.new.disk) }
+        ensures durable { EndsDurable result (D.view self.new.disk) }
         ensures same { SameSession (length flushes.now) self.old self.new }
         ensures cause { StopsByDevice result (D.view self.old.disk) (D.view self.new.disk) }
     {
