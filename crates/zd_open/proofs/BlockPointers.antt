@@ -1,5 +1,6 @@
 -- Pointers in sectors made pointers in blocks, one after another.
-use Rattle.std.proofs.Common.{◌≡◌, ℕ, ◌+◌, ◌<◌, List, [], ◌∷◌, ◌++◌, length, map, take, drop, set, get_or, refl, sym, ap, ◌∙◌}
+use Rattle.std.proofs.Common.{◌≡◌, ℕ, ◌+◌, ◌<◌, List, [], ◌∷◌, ◌++◌, length, take, drop, set, get_or, refl, sym, ap}
+use Rattle.std.proofs.Common.{◌∙◌}
 use Rattle.std.proofs.Common.{arith}
 use Rattle.std.specs.Int.{div_ceil}
 use Rattle.std.proofs.lemmas.Grind.{drop_more_same, take-set_at}
@@ -28,9 +29,9 @@ module _ (old new : List ℕ) (i x v : ℕ) (low : i < length old)
   next_in_blocks = (
     length-set new i v ∙ was.0,
     take-set_at new i (i + 1) v refl inside
-    ∙ ap (λ (xs : List ℕ). xs ++ v ∷ []) was.1
-    ∙ ap (λ (w : ℕ). in_blocks (take i old) ++ w ∷ []) one
-    ∙ sym (map-append (λ (p : ℕ). rounded_up p 8) (take i old) (get_or old i x ∷ []))
-    ∙ ap (λ (xs : List ℕ). in_blocks xs) (sym (take_more old i x low)),
+        ∙ ap (λ (xs : List ℕ). xs ++ v ∷ []) was.1
+        ∙ ap (λ (w : ℕ). in_blocks (take i old) ++ w ∷ []) one
+        ∙ sym (map-append (λ (p : ℕ). rounded_up p 8) (take i old) (get_or old i x ∷ []))
+        ∙ ap (λ (xs : List ℕ). in_blocks xs) (sym (take_more old i x low)),
     drop-set-lt (i + 1) new i v (omega arith) ∙ drop_more_same new old i was.2,
   )

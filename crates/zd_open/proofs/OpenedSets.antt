@@ -1,5 +1,6 @@
 -- What opening promises is what a volume starts from.
-use Rattle.std.proofs.Common.{◌≡◌, ℕ, ◌+◌, ◌*◌, ◌/◌, ◌%◌, ◌<◌, ◌≤◌, ◌^◌, ◌-◌, List, length, get_or, slice_index, Some, sym, ap, ◌∙◌}
+use Rattle.std.proofs.Common.{◌≡◌, ℕ, ◌+◌, ◌*◌, ◌/◌, ◌%◌, ◌<◌, ◌≤◌, List, length, get_or, slice_index, Some, sym, ap}
+use Rattle.std.proofs.Common.{◌∙◌}
 use Rattle.std.proofs.Common.{subst, arith}
 use Rattle.std.proofs.lemmas.List.{get_or-map}
 use Rattle.std.proofs.Math.Nat.{mod-lt}
@@ -15,6 +16,7 @@ use Rattle.zd_examine.specs.Opened.{HoldsBothSets, HoldsSet, IsOpened, IsOpening
 use Rattle.zd_examine.specs.declared.examining.Image.{Image as Volume}
 use Rattle.zd_model.specs.Bytes.{zero_sector}
 use Rattle.zd_model.specs.Image.{Image, block_at}
+use Rattle.zd_model.specs.Tables.{Tables}
 use Rattle.zd_model.specs.declared.metadata.Super.{Super}
 use Rattle.zd_model.proofs.ContentLaws.{length-served, served-at}
 use Rattle.zd_open.specs.OpenedVolume.{in_blocks}
@@ -26,7 +28,6 @@ use Rattle.zd_sets.proofs.MixLaws.{piece_at}
 use Rattle.zd_tables.specs.Rules.{AreBelow}
 use Rattle.zd_tables.specs.Tables.{tables_in}
 use Rattle.zd_volume.specs.Starts.{HoldsTables, OpensAs}
-use Rattle.zd_volume.specs.Volumes.{HasPointers}
 use Rattle.zd_volume.proofs.FixedStart.{same_sets}
 use Rattle.zd_volume.proofs.Images.{length-device}
 
@@ -55,8 +56,8 @@ module _ (g : Shape) (l : Layout) (shape : IsShape g) (fits : Fits g l) (i : Ima
           (of.image.sectors (first + k / g.zone_blocks) m (omega (arith, held, blocks, place, to))).0
 
 -- both sets have the tables
-holds_tables : (g : Shape) (c : Chosen) (bytes : List ℕ) → IsShape g → Fits g c.head.layout → (i : Image) → IsImageOf g i
-    → HoldsBothSets g c bytes i → AreBelow g i.held (tables_in g c.head.layout bytes)
+holds_tables : (g : Shape) (c : Chosen) (bytes : List ℕ) → IsShape g → Fits g c.head.layout → (i : Image)
+    → IsImageOf g i → HoldsBothSets g c bytes i → AreBelow g i.held (tables_in g c.head.layout bytes)
     → HoldsTables (same_sets g c.head bytes) i
 holds_tables g c bytes shape fits i of holds below = record {
   first = has_set g c.head.layout shape fits i of 0 (omega arith) c.head bytes holds.first;
@@ -84,6 +85,9 @@ module _ (v : Volume) (u w : View) (o : IsOpening v u w) (shape : IsShape v.geom
       subst (λ (h : Shape). (z : ℕ) → h.conv ≤ z → z < zone_count h → slice_index v.pointers.items z ≡ r.held z)
       (sym is.geometry) is.pointers.sequential
 
+  abbrev tables : Tables
+  tables = tables_in v.geometry v.chosen.head.layout v.blocks
+
   -- AN OPENED DISK is one over which a volume may start
   pub opened_as : OpensAs (same_sets v.geometry v.chosen.head v.blocks) (in_blocks v.pointers.items) w
   opened_as = record {
@@ -91,9 +95,9 @@ module _ (v : Volume) (u w : View) (o : IsOpening v u w) (shape : IsShape v.geom
         let before = turned_back o.opened r t in
         holds_tables v.geometry v.chosen v.blocks shape o.usable.placed.fits r (of_reads r t) (o.sets.now r t)
         (λ z x conv low few valid.
-            let at = pointer_is before.0 r before.2 z conv low in
-            let under = o.usable.bits.below z x conv low few valid in
-            omega (arith, at, under));
+        let at = pointer_is before.0 r before.2 z conv low in
+        let under = o.usable.bits.below z x conv low few valid in
+        omega (arith, at, under));
     pointers_are = λ r t.
         let before = turned_back o.opened r t in
         record {
@@ -109,11 +113,11 @@ module _ (v : Volume) (u w : View) (o : IsOpening v u w) (shape : IsShape v.geom
     content = λ small r t c can n low.
         let before = turned_back o.opened r t in
         let all = length-device (same_sets v.geometry v.chosen.head v.blocks) v.blocks c in
-        let size = length-served v.geometry.zone_blocks (tables_in v.geometry v.chosen.head.layout v.blocks) c.sector in
-        sym (served-at v.geometry.zone_blocks (tables_in v.geometry v.chosen.head.layout v.blocks) c.sector n zero_sector
+        let size = length-served v.geometry.zone_blocks tables c.sector in
+        sym (served-at v.geometry.zone_blocks tables c.sector n zero_sector
         (omega (arith, all, size, low)))
         ∙ ap (λ (xs : List (List ℕ)). get_or xs n zero_sector)
         ((o.leaves small before.0 before.1 c can).served ∙ sym before.2.served)
-        ∙ served-at v.geometry.zone_blocks (tables_in v.geometry v.chosen.head.layout v.blocks) r.sector n zero_sector
+        ∙ served-at v.geometry.zone_blocks tables r.sector n zero_sector
         (omega (arith, all, size, low));
   }

@@ -1,6 +1,6 @@
 //! Opening a volume, and starting it.
 
-ghost use Rattle.std.specs.Prelude.{◌≡◌, ◌+◌, ◌≤◌, IfOk, IfErr, map};
+ghost use Rattle.std.specs.Prelude.{◌≡◌, ◌+◌, ◌≤◌, IfOk, IfErr};
 ghost use Rattle.zd_disk.specs.Told.{WhereTold};
 ghost use Rattle.zd_disk.specs.View.{HasFailed, Keeps, ReachesBy};
 ghost use Rattle.zd_examine.specs.Examined.{ExplainsRefusal};
@@ -17,10 +17,9 @@ use zd_state::Volume;
 const BLOCK_SECTORS: u32 = 8;
 
 /// Pointers in sectors as pointers in blocks, rounded up.
-fn in_blocks(pointers: Vec<u32>) -> Vec<u32>
+fn in_blocks(mut pointers: Vec<u32>) -> Vec<u32>
     ensures { result.items ≡ in_blocks pointers.items }
 {
-    let mut pointers = pointers;
     for i in 0..pointers.len() {
         pointers[i] = pointers[i].div_ceil(BLOCK_SECTORS);
     }
@@ -32,7 +31,7 @@ fn in_blocks(pointers: Vec<u32>) -> Vec<u32>
 ///
 /// `NoSuperBlock`, `Layout`, `BadMap` and `BadBits` come exactly where the disk is no volume. The disk then
 /// had one flush and no write. `Memory` may also come when the disk is opened already.
-pub fn open_volume<D: ZonedDisk>(alloc: Global, disk: D) -> Result<Volume<D>, (OpenFault, D)>
+pub fn open_volume<D: ZonedDisk>(alloc: Global, mut disk: D) -> Result<Volume<D>, (OpenFault, D)>
     ensures ok { IfOk result (λ v. IsOpenedVolume (D.view disk) (D.view v.disk) v) }
     ensures err { IfErr result (λ e. WhereTold (D.view disk).zones (ExplainsRefusal e.0)) }
     ensures refused { IfErr result (λ e. IsRefusal e.0 → IsFlushed (D.view disk) (D.view e.1)) }
@@ -46,7 +45,6 @@ pub fn open_volume<D: ZonedDisk>(alloc: Global, disk: D) -> Result<Volume<D>, (O
 
     ensures cause { IfErr result (λ e. e.0 ≡ OpenFault.Device → HasFailed (D.view disk) (D.view e.1)) }
 {
-    let mut disk = disk;
     let image = match open(alloc, &mut disk) {
         Ok(image) => image,
         Err(fault) => return Err((fault, disk)),

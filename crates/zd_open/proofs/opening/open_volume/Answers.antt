@@ -21,7 +21,8 @@ returns-in-Ok-start-clause-ok g c =
     let view = g.D.ZonedDisk.view in
     record {
       image = c.in-Ok.image;
-      opened = subst (λ (d : _). IsOpening c.in-Ok.image (view c.args.disk) (view d)) (sym ok.disk_is) c.in-Ok.ensures.ok;
+      opened = subst (λ (d : _). IsOpening c.in-Ok.image (view c.args.disk) (view d)) (sym ok.disk_is)
+          c.in-Ok.ensures.ok;
       opening = ok.opening ∙ sym ok.disk_is;
       values = subst (λ (ps : List ℕ). IsStarted c.in-Ok.image.geometry c.in-Ok.image.chosen.head c.in-Ok.image.blocks
           ps c.in-Ok-start.volume.plain) c.in_blocks-pointers.ensures ok.values;
