@@ -1,5 +1,5 @@
 -- What a volume starts as, put together.
-use Rattle.std.proofs.Common.{◌≡◌, ℕ, ◌*◌, Bool, false, List, [], length, replicate, None, refl, sym, ap, ◌∙◌, subst}
+use Rattle.std.proofs.Common.{◌≡◌, ℕ, ◌*◌, Bool, false, List, [], length, replicate, None, Some, sym, ap, ◌∙◌, subst}
 use Rattle.zd_base.specs.Geometry.{Shape, zone_count, IsShape}
 use Rattle.zd_base.specs.Layout.{Fits, used_blocks}
 use Rattle.zd_alloc.specs.Candidates.{Standings}
@@ -13,15 +13,15 @@ use Rattle.zd_state.proofs.NamedFlags.{flags_all}
 use Rattle.zd_state.proofs.StartClasses.{candidates_all}
 use Rattle.zd_tables.specs.Held.{HeldTables, tables_held}
 use Rattle.zd_tables.specs.Rules.{FollowRules}
-use Rattle.zd_volume.specs.Starts.{OpensAs, started}
+use Rattle.zd_volume.specs.Starts.{OpensAs}
 use Rattle.zd_volume.specs.Uses.{AreCandidates}
 use Rattle.zd_volume.specs.Volumes.{IsKeptVolume, PlainVolume, sets_of}
 use Rattle.zd_volume.specs.declared.phase.Phase.TheVariants.{Idle}
 use Rattle.zd_volume.proofs.FixedStart.{fixed_start, same_sets}
 use Rattle.zd_volume.proofs.Starting.{kept_start}
 
-module _ (g : Shape) (head : Super) (bytes pointers : List ℕ) (h : HeldTables) (committed : List ℕ) (dirty named : List Bool)
-    (division : Division) (standings : Standings) (buffer : List ℕ) (history : List HistoryEntry) where
+module _ (g : Shape) (head : Super) (bytes pointers : List ℕ) (h : HeldTables) (committed : List ℕ)
+    (dirty named : List Bool) (division : Division) (standings : Standings) (buffer : List ℕ) (history : List HistoryEntry) where
   abbrev place : HeldTables
   place = record { geometry = g; layout = head.layout; bytes = bytes }
 
@@ -73,7 +73,7 @@ module _ (g : Shape) (head : Super) (bytes pointers : List ℕ) (h : HeldTables)
 
 -- over a disk that was opened it is a volume
 pub kept_started : (g : Shape) (head : Super) (bytes pointers : List ℕ) (v : PlainVolume) (d : View)
-    → IsStarted g head bytes pointers v → d.told ≡ Rattle.std.proofs.Common.Some g → IsShape g → Fits g head.layout
+    → IsStarted g head bytes pointers v → d.told ≡ Some g → IsShape g → Fits g head.layout
     → HasBlock head → length bytes ≡ 4096 * used_blocks g head.layout → FollowRules g head.layout bytes
     → length pointers ≡ zone_count g → OpensAs (same_sets g head bytes) pointers d → IsKeptVolume v d d
 kept_started g head bytes pointers v d is tells shape fits sizes size rules count opens =
@@ -82,6 +82,7 @@ kept_started g head bytes pointers v d is tells shape fits sizes size rules coun
     v.buffer d tells
     (fixed_start g head bytes v.division v.named pointers v.standings v.buffer shape fits sizes rules size is.division
     is.named count
-    (subst (λ (w : PlainVolume). AreCandidates (sets_of w) pointers v.division.order v.standings) is.plain is.candidates)
+    (subst (λ (w : PlainVolume). AreCandidates (sets_of w) pointers v.division.order v.standings) is.plain
+    is.candidates)
     is.buffer)
     opens)
