@@ -6,6 +6,7 @@ mod entering;
 mod marks;
 mod place;
 mod readers;
+mod reading;
 mod state;
 mod volume;
 
