@@ -15,8 +15,8 @@ abbrev pub IsReadFrom : MapEntry → Option Place → Option ℕ → Type 0
 IsReadFrom e None zone = zone ≡ None
 IsReadFrom e (Some Main) zone = (zone ≢ None) × (zone ≡ e.zone)
 IsReadFrom e (Some Buffer) zone = (zone ≢ None) × (zone ≡ e.buffer)
-IsReadFrom e (Some NewMain) zone = ⊥
-IsReadFrom e (Some NewBuffer) zone = ⊥
+IsReadFrom e (Some NewMain) from = ⊥
+IsReadFrom e (Some NewBuffer) from = ⊥
 
 -- from this block of the device on stand exactly so many with this place, before so many blocks are
 -- over or one has another place

@@ -1,13 +1,15 @@
 //! Runs of blocks with one place.
 
-ghost use Rattle.std.specs.Prelude.{◌≡◌, ◌+◌, ◌/◌, ◌%◌, ◌<◌, ◌≤◌, None};
+ghost use Rattle.std.specs.Prelude.{◌≡◌, ℕ, ◌+◌, ◌/◌, ◌%◌, ◌<◌, ◌≤◌, None, Some};
 ghost use Rattle.zd_disk.specs.View.{OnlyReads};
-ghost use Rattle.zd_read.specs.Runs.{IsRunFrom};
+ghost use Rattle.zd_model.specs.Tables.{NamesZone};
+ghost use Rattle.zd_read.specs.Runs.{IsReadFrom, IsRunFrom};
 ghost use Rattle.zd_state.specs.Seen.{SameSession};
 ghost use Rattle.zd_volume.specs.Flights.{IsFlight, ReadStep};
 
-use zd_base::ChunkNo;
+use zd_base::{ChunkNo, ZoneNo};
 use zd_disk::ZonedDisk;
+use zd_model::MapEntry;
 use zd_state::{Flight, Place, Ran, Volume};
 
 /// Blocks that have one place.
@@ -18,6 +20,23 @@ pub struct Run {
     pub count: u32,
 }
 
+/// The place of blocks of a chunk that stand in this zone.
+fn place_of(entry: &MapEntry, zone: Option<ZoneNo>) -> Option<Place>
+    requires { (z : ℕ) → zone ≡ Some z → NamesZone entry.now z }
+    ensures { IsReadFrom entry.now result zone }
+{
+    match zone {
+        None => None,
+        Some(zone) => {
+            if entry.zone == Some(zone) {
+                Some(Place::Main)
+            } else {
+                Some(Place::Buffer)
+            }
+        }
+    }
+}
+
 /// The run that begins with a block of the device: the longest one among `most` blocks of one chunk.
 pub fn run_of<D: ZonedDisk>(v: &Volume<D>, block: u64, most: u32) -> Run
     requires some { 1 ≤ most }
@@ -25,20 +44,12 @@ pub fn run_of<D: ZonedDisk>(v: &Volume<D>, block: u64, most: u32) -> Run
     requires chunk { block % v.now.plain.geometry.zone_blocks + most ≤ v.now.plain.geometry.zone_blocks }
     ensures { IsRunFrom v.now.plain block most result }
 {
+    let _chunks = v.layout().chunks;
     let zone_blocks = u64::from(v.geometry().zone_blocks());
     let chunk = ChunkNo((block / zone_blocks) as u32);
     let at = (block % zone_blocks) as u32;
     let (zone, count) = v.run_at(chunk, at, at + most);
-    let place = match zone {
-        None => None,
-        Some(zone) => {
-            if v.entry(chunk).zone == Some(zone) {
-                Some(Place::Main)
-            } else {
-                Some(Place::Buffer)
-            }
-        }
-    };
+    let place = place_of(&v.entry(chunk), zone);
     Run { place, count }
 }
 
