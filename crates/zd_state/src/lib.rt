@@ -8,6 +8,7 @@ mod marks;
 mod start;
 mod place;
 mod readers;
+mod reading;
 mod state;
 mod volume;
 

@@ -12,21 +12,11 @@ use Rattle.zd_disk.specs.OfGeometry.{IsImageOf}
 use Rattle.zd_disk.specs.Told.{WhereTold}
 use Rattle.zd_disk.specs.View.{OnlyReads, View}
 use Rattle.zd_tables.specs.Rules.{AreBelow}
-use Rattle.zd_volume.specs.Flights.{HasRead, IsFlight, IsRunOfRead, ReadsAt, ReadsRun, chunk_of, first_in_chunk, place_now, sectors_within, serves, tables_now}
+use Rattle.zd_volume.specs.Flights.{HasRead, IsFlight, IsRunOfRead, ReadsAt, ReadsRun, chunk_of, first_in_chunk, end_sector, next_sector, place_now, sectors_within, serves, stop_sector, tables_now}
 use Rattle.zd_volume.specs.Sets.{AreSets}
 use Rattle.zd_volume.specs.Volumes.{PlainVolume, sets_of}
 use Rattle.zd_volume.specs.declared.flight.Flight.{Flight}
 use Rattle.zd_volume.proofs.FlightLaws.{all_within, ends_at, next_block, next_inside, run_ends, run_held, run_zone, served_on}
-
--- the sector of the chunk that comes next, that behind the piece, and that behind a run of so many blocks
-abbrev pub next_sector : PlainVolume → Flight → ℕ
-next_sector v f = first_in_chunk v f.piece.what + sectors_within f.piece.what f.done
-
-abbrev pub end_sector : PlainVolume → Flight → ℕ
-end_sector v f = first_in_chunk v f.piece.what + sector_count f.piece.what
-
-abbrev pub stop_sector : PlainVolume → Flight → ℕ → ℕ
-stop_sector v f count = min (end_sector v f) (8 * (next_sector v f / 8 + count))
 
 module _ (v : PlainVolume) (are : AreSets (sets_of v)) (told : Option Image) (f : Flight) (is : IsFlight v told f) where
   abbrev what : What

@@ -39,3 +39,4 @@ pub mod ServesLaws
 pub mod EntryKeeps
 pub mod FlightLaws
 pub mod FlightSteps
+pub mod ReadEnds

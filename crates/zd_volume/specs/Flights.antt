@@ -80,6 +80,17 @@ pub record IsFlight (v : PlainVolume) (told : Option Image) (f : Flight) : Type 
   pub more : f.done < block_count f.piece.what
   pub read : HasRead v told f
 
+-- the sector of the chunk that comes next, the one behind the piece, and the one behind a run of so
+-- many blocks
+abbrev pub next_sector : PlainVolume → Flight → ℕ
+next_sector v f = first_in_chunk v f.piece.what + sectors_within f.piece.what f.done
+
+abbrev pub end_sector : PlainVolume → Flight → ℕ
+end_sector v f = first_in_chunk v f.piece.what + sector_count f.piece.what
+
+abbrev pub stop_sector : PlainVolume → Flight → ℕ → ℕ
+stop_sector v f count = min (end_sector v f) (8 * (next_sector v f / 8 + count))
+
 -- so many blocks from the next one on have this place, before the end of the piece or a block that has
 -- another one
 abbrev pub IsRunOfRead : PlainVolume → Flight → Option ℕ → ℕ → Type 0
