@@ -50,6 +50,13 @@ runs_on dirty InPlaceFlush q after idle = (let no : InPlaceSuper ≡ Idle = sym 
 runs_on dirty InPlaceSuper q after idle = (let no : InPlaceSuperFlush ≡ Idle = sym after ∙ idle in let f : ⊥ = cc in f)
 runs_on dirty InPlaceSuperFlush q after idle = after
 
+-- one call less is left
+pub fewer_left : (mid to : PlainVolume) → IsFixed mid → Advances mid to
+    → calls_left to.dirty to.phase + 1 ≡ calls_left mid.dirty mid.phase
+fewer_left mid to fixed step =
+    ap (λ (d : List Bool). calls_left d to.phase + 1) (ap (λ (m : PlainVolume). m.dirty) step.rest)
+    ∙ one_less mid.dirty mid.phase to.phase mid.head.generation fixed.under_way step.phase
+
 module _ (from : PlainVolume) (u : View) where
   pub under_way : IsUnderWay from from u u
   under_way = record {
@@ -84,15 +91,9 @@ module _ (from : PlainVolume) (u : View) where
           left = λ small.
               let n = one.calls in
               let l = was.left (omega arith) in
-              let less = fewer fixed step in
+              let less = fewer_left mid to fixed step in
               omega (arith, n, l, less);
         }
-      where
-        fewer : IsFixed mid → Advances mid to → calls_left to.dirty to.phase + 1 ≡ calls_left mid.dirty mid.phase
-        fewer fixed step =
-            ap (λ (d : List Bool). calls_left d to.phase + 1) (ap (λ (m : PlainVolume). m.dirty) step.rest)
-            ∙ one_less mid.dirty mid.phase to.phase mid.head.generation fixed.under_way step.phase
-
     -- THE LAST ONE
     pub committed : EndsCommit mid to [] → IsCommitted from to
     committed ends = record {

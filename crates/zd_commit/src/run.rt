@@ -45,6 +45,7 @@ pub fn run_commit<D: ZonedDisk>(v: &mut Volume<D>) -> Result<(), Why>
 {
     let none: [Piece; 0] = [];
     loop {
+        v.sound();
         match v.commit_one(&none) {
             Committed::More => {}
             Committed::Ended => return Ok(()),

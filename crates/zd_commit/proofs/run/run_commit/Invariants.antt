@@ -4,11 +4,11 @@ use Rattle.zd_state.specs.Seen.{SameSession}
 use Rattle.zd_volume.specs.Commits.{calls_left}
 use Rattle.zd_commit.proofs.run.run_commit.Given as goal
 
-abbrev pub invariant-loop : goal.invariant-loop
-invariant-loop g l =
+abbrev pub invariant-loop-why : goal.invariant-loop-why
+invariant-loop-why g l =
     (l.v.plain.stopped ≡ None)
     × IsUnderWay l.fn.v.plain l.v.plain (g.D.ZonedDisk.view l.fn.v.disk) (g.D.ZonedDisk.view l.v.disk)
     × SameSession 0 l.fn.v l.v
 
-abbrev pub decreases-loop : goal.decreases-loop
-decreases-loop g l = calls_left l.v.plain.dirty l.v.plain.phase
+abbrev pub decreases-loop-why : goal.decreases-loop-why
+decreases-loop-why g l = calls_left l.v.plain.dirty l.v.plain.phase
