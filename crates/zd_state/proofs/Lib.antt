@@ -1,0 +1,2 @@
+pub mod EntryZones
+pub mod DiscardSteps

@@ -1,7 +1,9 @@
 //! A mounted volume: its values in memory, its disk, and the primitives that change both.
 #![tactic(auto)]
 
+mod classes;
 mod commit;
+mod discards;
 mod marks;
 mod state;
 mod volume;
