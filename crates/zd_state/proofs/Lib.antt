@@ -1,2 +1,3 @@
 pub mod EntryZones
 pub mod DiscardSteps
+pub mod HeldZones

@@ -4,6 +4,7 @@
 mod classes;
 mod commit;
 mod discards;
+mod jobs;
 mod marks;
 mod state;
 mod volume;
