@@ -120,6 +120,7 @@ impl Candidates {
         requires { chunk < length self.old.classes }
         ensures classes { GivesClass chunk class self.old.classes self.new.classes }
         ensures numbers { self.new.numbers ≡ self.old.numbers }
+        ensures next { self.new.next ≡ self.old.next }
     {
         self.clear(chunk.0);
         if let Some(class) = class {

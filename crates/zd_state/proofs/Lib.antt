@@ -2,3 +2,5 @@ pub mod EntryZones
 pub mod NamedFlags
 pub mod StartClasses
 pub mod StartValues
+pub mod DiscardSteps
+pub mod HeldZones

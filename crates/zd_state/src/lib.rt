@@ -4,6 +4,8 @@
 mod classes;
 mod commit;
 mod entering;
+mod discards;
+mod jobs;
 mod marks;
 mod start;
 mod place;
