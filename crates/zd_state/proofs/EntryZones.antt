@@ -1,10 +1,6 @@
 -- The zones that an entry names are zones of the disk, and only entries of chunks name any.
-<<<<<<< HEAD
 use Rattle.std.proofs.Common.{◌≡◌, ℕ, ◌<◌, List, length, Bool, Option, Some, None, IfSome, inl, inr, refl, ap, sym}
 use Rattle.std.proofs.Common.{◌∙◌, arith}
-=======
-use Rattle.std.proofs.Common.{◌≡◌, ℕ, ◌<◌, List, length, Bool, Option, Some, None, IfSome, inl, inr, refl, ap, sym, ◌∙◌, arith}
->>>>>>> ef13218ca8ade89b0899d436bdc659843478457b
 use Rattle.zd_base.specs.Geometry.{Shape, zone_count}
 use Rattle.zd_base.specs.declared.layout.Layout.{Layout}
 use Rattle.zd_model.specs.Tables.{entry_of}
@@ -29,7 +25,6 @@ module _ (g : Shape) (l : Layout) (bytes : List ℕ) (rules : FollowRules g l by
     (is : e ≡ entry_of (tables_in g l bytes) c) (flags : List Bool) (size : length flags ≡ zone_count g) where
   pub zone_flag : IfSome e.zone (λ z. z < length flags)
   zone_flag =
-<<<<<<< HEAD
       if_there (length flags) e.zone
       (λ z n. let low = zone_there g l bytes rules c e is z n in omega (arith, low, size))
 
@@ -37,10 +32,3 @@ module _ (g : Shape) (l : Layout) (bytes : List ℕ) (rules : FollowRules g l by
   buffer_flag =
       if_there (length flags) e.buffer
       (λ z n. let low = buffer_there g l bytes rules c e is z n in omega (arith, low, size))
-=======
-      if_there (length flags) e.zone (λ z n. let low = zone_there g l bytes rules c e is z n in omega (arith, low, size))
-
-  pub buffer_flag : IfSome e.buffer (λ z. z < length flags)
-  buffer_flag =
-      if_there (length flags) e.buffer (λ z n. let low = buffer_there g l bytes rules c e is z n in omega (arith, low, size))
->>>>>>> ef13218ca8ade89b0899d436bdc659843478457b
