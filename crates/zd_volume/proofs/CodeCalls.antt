@@ -1,5 +1,5 @@
 -- The calls of a commit as code makes them: what it keeps, and that it is a step of a commit.
-use Rattle.std.proofs.Common.{◌≡◌, ◌⊎◌, ℕ, ◌+◌, ◌-◌, ◌*◌, ◌/◌, ◌%◌, ◌^◌, ◌<◌, ◌≤◌, Bool, true, false, List, length, replicate, get_or, ◌∙◌, Option, Some, None, inl, inr, refl, sym, subst, arith}
+use Rattle.std.proofs.Common.{◌≡◌, ◌⊎◌, ℕ, ◌+◌, ◌-◌, ◌*◌, ◌/◌, ◌%◌, ◌^◌, ◌<◌, ◌≤◌, Bool, true, false, List, length, replicate, ◌∙◌, Option, Some, None, inl, inr, refl, sym, subst, arith}
 use Rattle.std.proofs.Math.Nat.{mul-le-mul_right}
 use Rattle.std.proofs.lemmas.Bool.{cases_eq}
 use Rattle.std.proofs.lemmas.List.{get_or-replicate, length-replicate}
@@ -36,7 +36,7 @@ use Rattle.zd_volume.proofs.CallsLeft.{dirty_more, dirty_next, none_dirty}
 use Rattle.zd_volume.proofs.CommitSteps.{block_meta, is_super, kept_block, kept_flush, kept_super, super_meta}
 use Rattle.zd_volume.proofs.EndUses.{ended_sets, flags_named, job_ended, used_ended}
 use Rattle.zd_volume.proofs.Flushes.{kept_flush_failed}
-use Rattle.zd_volume.proofs.InPhases.{by_next, next_more}
+use Rattle.zd_volume.proofs.InPhases.{next_more}
 use Rattle.zd_volume.proofs.LegalEntries.{done_entries, failed_entries, legal_flushes_done, legal_flushes_failed}
 use Rattle.zd_volume.proofs.MetaWrites.{kept_meta_failed}
 

@@ -1,11 +1,11 @@
 -- The flush that ends a commit: the new tables are the committed ones.
-use Rattle.std.proofs.Common.{◌≡◌, ℕ, ◌+◌, ◌-◌, ◌^◌, ◌<◌, ◌≤◌, Bool, true, false, List, [], ◌∷◌, ◌++◌, length, slice_index_or, get_or, Option, Some, None, refl, ap, sym, ◌∙◌, subst, arith}
+use Rattle.std.proofs.Common.{◌≡◌, ℕ, ◌+◌, ◌-◌, ◌^◌, ◌<◌, ◌≤◌, Bool, true, false, List, [], ◌∷◌, ◌++◌, length, slice_index_or, Option, Some, None, refl, ap, sym, ◌∙◌, subst, arith}
 use Rattle.std.specs.List.{AllByRecursion}
 use Rattle.zd_alloc.specs.Zones.{Division}
 use Rattle.zd_model.specs.Bytes.{zero_sector}
 use Rattle.zd_model.specs.History.{HistoryEntry, IsLegal}
 use Rattle.zd_model.specs.Image.{Image, Same}
-use Rattle.zd_model.specs.Safe.{IsSafe, base_at, last_at}
+use Rattle.zd_model.specs.Safe.{base_at, last_at}
 use Rattle.zd_model.specs.Stops.{AreBy, IsFlushAt, MayHold}
 use Rattle.zd_model.specs.Super.{HasBlock}
 use Rattle.zd_model.specs.Tables.{entry_of}
@@ -20,7 +20,7 @@ use Rattle.zd_volume.specs.Commits.{after_end}
 use Rattle.zd_volume.specs.Jobs.{HasCopies, HasTarget, IsJobOrNone}
 use Rattle.zd_volume.specs.LeftImages.{MayBeLeft, ReadsAs}
 use Rattle.zd_volume.specs.Phases.{end_generation, end_phase, IsNextDirty, with_generation}
-use Rattle.zd_volume.specs.Sets.{AreSets, Sets, new_tables, old_tables, second, used}
+use Rattle.zd_volume.specs.Sets.{AreSets, new_tables, old_tables, second, used}
 use Rattle.zd_volume.specs.Uses.{AreCandidates, AreUsed, FlagNamed, IsPhase}
 use Rattle.zd_volume.specs.Volumes.{IsKeptVolume, PlainVolume, sets_of}
 use Rattle.zd_volume.specs.declared.phase.Phase.{Phase}

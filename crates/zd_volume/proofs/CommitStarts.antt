@@ -1,13 +1,12 @@
 -- A commit begins, or cannot: steps without a call.
-use Rattle.std.proofs.Common.{◌≡◌, ℕ, ◌+◌, ◌-◌, ◌^◌, ◌<◌, ◌≤◌, List, Option, Some, None, refl, sym, ◌∙◌, subst, arith}
+use Rattle.std.proofs.Common.{◌≡◌, ℕ, ◌-◌, ◌^◌, ◌<◌, Some, None, refl, sym, ◌∙◌, subst, arith}
 use Rattle.zd_base.specs.declared.numbers.Why.{Why}
 use Rattle.zd_model.specs.Safe.{base_at}
 use Rattle.zd_disk.specs.View.{View}
 use Rattle.zd_sets.proofs.StageLaws.{before_mixed}
-use Rattle.zd_volume.specs.FaultCounts.{CountsFaults}
 use Rattle.zd_volume.specs.LeftImages.{MayBeLeft, ReadsAs}
 use Rattle.zd_volume.specs.Phases.{IsNextDirty}
-use Rattle.zd_volume.specs.Sets.{Sets, second, used}
+use Rattle.zd_volume.specs.Sets.{second, used}
 use Rattle.zd_volume.specs.Uses.{IsPhase}
 use Rattle.zd_volume.specs.Volumes.{IsKeptVolume, PlainVolume, sets_of}
 use Rattle.zd_volume.specs.declared.phase.Phase.{Phase}

@@ -1,14 +1,13 @@
 -- A piece that is entered without a writing call keeps a volume: a read with its bytes or with Fault, and a piece
 -- that ends past the device.
-use Rattle.std.proofs.Common.{◌≡◌, ◌≢◌, ℕ, ◌+◌, ◌-◌, ◌*◌, ◌/◌, ◌%◌, ◌^◌, ◌<◌, ◌≤◌, Bool, true, false, cond, List, [], ◌∷◌, ◌++◌, length, slice_index_or, Option, Some, None, refl, sym, ap, ap₂, ◌∙◌, subst, arith}
+use Rattle.std.proofs.Common.{◌≡◌, ◌≢◌, ℕ, ◌+◌, ◌*◌, ◌/◌, ◌≤◌, Bool, true, false, cond, List, [], ◌∷◌, length, slice_index_or, Option, Some, None, refl, sym, ap, ◌∙◌, arith}
 use Rattle.std.proofs.Math.Nat.{mul-le-mul_right}
 use Rattle.std.proofs.lemmas.Nat.{div-add-mod'}
-use Rattle.zd_base.specs.Geometry.{zone_sectors}
 use Rattle.zd_model.specs.History.{HistoryEntry, IsLegal, entry_after, last_array}
 use Rattle.zd_model.specs.Image.{Image}
-use Rattle.zd_model.specs.Plain.{Answer, ends_past, reply_to, reply_within}
+use Rattle.zd_model.specs.Plain.{Answer, ends_past, reply_within}
 use Rattle.zd_model.specs.Plain.Answer.{Done, Fault, Got, Range}
-use Rattle.zd_model.specs.Requests.{Operation, first_sector, operation_of, sector_count}
+use Rattle.zd_model.specs.Requests.{first_sector, operation_of}
 use Rattle.zd_model.specs.Requests.Operation.{Reading, Writing}
 use Rattle.zd_model.specs.Bytes.{zero_sector}
 use Rattle.zd_model.specs.Safe.{base_at, last_at}
@@ -26,7 +25,7 @@ use Rattle.zd_volume.specs.Flights.{IsPieceIn, answered, serves, with_entry}
 use Rattle.zd_volume.specs.Jobs.{HasCopies, sector_of_chunk}
 use Rattle.zd_volume.specs.Sets.{Sets, device_sectors}
 use Rattle.zd_volume.specs.declared.work.Work.{Work}
-use Rattle.zd_volume.specs.Volumes.{IsKeptVolume, IsNow, MayBe, PlainVolume, sets_of}
+use Rattle.zd_volume.specs.Volumes.{IsKeptVolume, PlainVolume, sets_of}
 use Rattle.zd_volume.proofs.FaultEntries.{calm_more, faults_none, faults_read}
 use Rattle.zd_volume.proofs.Images.{left_history}
 use Rattle.zd_volume.proofs.LegalEntries.{legal_plain, legal_read_fault}

@@ -1,5 +1,5 @@
 -- What entries and failures make of the count of faults.
-use Rattle.std.proofs.Common.{◌≡◌, ◌≢◌, ℕ, ◌+◌, ◌-◌, ◌^◌, ◌<◌, ◌≤◌, Bool, true, false, cond, ◌||◌, List, [], ◌∷◌, ◌++◌, Option, Some, refl, sym, ap, ap₂, ◌∙◌, subst, arith}
+use Rattle.std.proofs.Common.{◌≡◌, ◌≢◌, ℕ, ◌+◌, ◌≤◌, Bool, true, false, cond, ◌||◌, List, [], ◌∷◌, ◌++◌, Option, Some, refl, sym, ap, ap₂, ◌∙◌, arith}
 use Rattle.std.proofs.lemmas.List.Folds.{list_any-append}
 use Rattle.std.proofs.lemmas.List.Sums.{sum_by-append}
 use Rattle.std.specs.List.{AllByRecursion, count_by, list_any}
@@ -13,7 +13,7 @@ use Rattle.zd_model.specs.Requests.Operation.{Reading, Writing, Discarding, Flus
 use Rattle.zd_model.specs.Stops.{IsFlushAt}
 use Rattle.zd_model.specs.declared.requests.What.{What}
 use Rattle.zd_model.specs.declared.requests.What.TheVariants.{Flush}
-use Rattle.zd_volume.specs.FaultCounts.{AreCalm, CountsFaults, IsCalm, IsFailedFlushAt, has_fault, is_data, is_faulted, is_flushing, is_reading, read_faults, told_faults}
+use Rattle.zd_volume.specs.FaultCounts.{AreCalm, CountsFaults, IsFailedFlushAt, has_fault, is_data, is_faulted, is_flushing, is_reading, read_faults, told_faults}
 
 count_more : (p : HistoryEntry → Bool) (h es : List HistoryEntry) → count_by p (h ++ es) ≡ count_by p h + count_by p es
 count_more p h es = sum_by-append (λ e. cond (p e) 1 0) h es

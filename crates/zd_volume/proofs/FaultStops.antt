@@ -1,13 +1,11 @@
 -- Flushes that failed: they add nothing to what may be held, and a legal history stays legal with them.
-use Rattle.std.proofs.Common.{◌≡◌, ℕ, ◌+◌, ◌<◌, ◌≤◌, false, List, [], ◌∷◌, ◌++◌, length, refl, sym, ap, ap₂, inl, inr, ◌∙◌, subst, arith}
+use Rattle.std.proofs.Common.{◌≡◌, ℕ, false, List, [], ◌∷◌, ◌++◌, sym, ap₂, subst, arith}
 use Rattle.std.proofs.lemmas.List.{append-nil, append_assoc}
 use Rattle.std.specs.List.{AllByRecursion}
-use Rattle.zd_model.specs.History.{HistoryEntry, IsLegal}
+use Rattle.zd_model.specs.History.{HistoryEntry}
 use Rattle.zd_model.specs.Plain.{Answer}
-use Rattle.zd_model.specs.Plain.Answer.{Done, Fault}
 use Rattle.zd_model.specs.Stops.{AreBy, MayHold, is_done_flush}
 use Rattle.zd_model.specs.declared.requests.What.{What}
-use Rattle.zd_model.specs.declared.requests.What.TheVariants.{Flush}
 use Rattle.zd_model.proofs.HeldLaws.{no_flush}
 use Rattle.zd_volume.specs.FaultCounts.{IsFailedFlushAt}
 

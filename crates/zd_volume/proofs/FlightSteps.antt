@@ -1,22 +1,22 @@
 -- A step of a read: the run that comes next, and the read after it.
-use Rattle.std.proofs.Common.{◌≡◌, ℕ, ◌+◌, ◌-◌, ◌*◌, ◌/◌, ◌%◌, ◌<◌, ◌≤◌, min, List, ◌++◌, length, Option, Some, None, refl, sym, ap, ap₂, ◌∙◌, subst, arith}
+use Rattle.std.proofs.Common.{◌≡◌, ℕ, ◌+◌, ◌-◌, ◌*◌, ◌/◌, ◌<◌, ◌≤◌, ◌++◌, length, Option, Some, refl, sym, ap, ◌∙◌, subst, arith}
 use Rattle.std.specs.List.{concat, slice_range}
 use Rattle.zd_base.specs.Geometry.{zone_count, zone_sectors}
 use Rattle.zd_base.specs.Layout.{rounded_up}
 use Rattle.zd_model.specs.Image.{Image, run_of}
 use Rattle.zd_model.specs.Places.{IsPlacedRun, sector_in}
-use Rattle.zd_model.specs.Requests.{block_count, first_sector, sector_count}
+use Rattle.zd_model.specs.Requests.{block_count, first_sector}
 use Rattle.zd_model.specs.Room.{ListWithRoom}
 use Rattle.zd_model.specs.declared.requests.What.{What}
 use Rattle.zd_disk.specs.OfGeometry.{IsImageOf}
 use Rattle.zd_disk.specs.Told.{WhereTold}
-use Rattle.zd_disk.specs.View.{OnlyReads, View}
+use Rattle.zd_disk.specs.View.{View}
 use Rattle.zd_tables.specs.Rules.{AreBelow}
-use Rattle.zd_volume.specs.Flights.{HasRead, IsFlight, IsRunOfRead, ReadsAt, ReadsRun, chunk_of, first_in_chunk, end_sector, next_sector, place_now, sectors_within, serves, stop_sector, tables_now}
+use Rattle.zd_volume.specs.Flights.{IsFlight, IsRunOfRead, ReadsAt, ReadsRun, chunk_of, first_in_chunk, end_sector, next_sector, place_now, sectors_within, serves, stop_sector, tables_now}
 use Rattle.zd_volume.specs.Sets.{AreSets}
 use Rattle.zd_volume.specs.Volumes.{PlainVolume, sets_of}
 use Rattle.zd_volume.specs.declared.flight.Flight.{Flight}
-use Rattle.zd_volume.proofs.FlightLaws.{all_within, ends_at, next_block, next_inside, run_ends, run_held, run_zone, served_on}
+use Rattle.zd_volume.proofs.FlightLaws.{ends_at, next_block, next_inside, run_ends, run_held, run_zone, served_on}
 
 module _ (v : PlainVolume) (are : AreSets (sets_of v)) (told : Option Image) (f : Flight) (is : IsFlight v told f) where
   abbrev what : What

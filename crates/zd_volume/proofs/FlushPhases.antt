@@ -1,5 +1,5 @@
 -- The flushes inside a commit, phase by phase.
-use Rattle.std.proofs.Common.{◌≡◌, ℕ, ◌+◌, ◌<◌, ◌≤◌, true, false, List, Bool, get_or, Option, Some, None, inl, inr, ap, ◌∙◌, arith}
+use Rattle.std.proofs.Common.{◌≡◌, ℕ, ◌<◌, ◌≤◌, true, false, List, Bool, get_or, Option, Some, None, inl, inr, ap, ◌∙◌, arith}
 use Rattle.std.proofs.lemmas.Bool.{cases_lt}
 use Rattle.zd_model.specs.Image.{Image}
 use Rattle.zd_model.specs.declared.metadata.Super.{Super}

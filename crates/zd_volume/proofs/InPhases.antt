@@ -1,5 +1,5 @@
 -- A volume in another phase, and images that hold the same.
-use Rattle.std.proofs.Common.{◌≡◌, ◌≢◌, ℕ, ◌+◌, ◌-◌, ◌*◌, ◌^◌, ◌<◌, ◌≤◌, max, min, List, Option, Some, None, sym, ◌∙◌, ap, subst, arith}
+use Rattle.std.proofs.Common.{◌≡◌, ◌≢◌, ℕ, ◌<◌, ◌≤◌, List, Option, Some, sym, ◌∙◌, ap, subst, arith}
 use Rattle.zd_base.specs.Geometry.{Shape}
 use Rattle.zd_base.specs.Layout.{rounded_up}
 use Rattle.zd_base.specs.declared.numbers.Why.{Why}

@@ -1,11 +1,11 @@
 -- A write of a commit, done or failed.
-use Rattle.std.proofs.Common.{◌≡◌, ◌≢◌, ℕ, ◌+◌, ◌*◌, ◌<◌, ◌≤◌, List, ◌++◌, Option, Some, None, refl, ap, arith}
+use Rattle.std.proofs.Common.{◌≡◌, ℕ, ◌+◌, ◌<◌, ◌≤◌, List, ◌++◌, Some, None, refl, ap, arith}
 use Rattle.std.specs.List.{AllByRecursion}
 use Rattle.zd_base.specs.Geometry.{Shape, zone_sectors}
 use Rattle.zd_base.specs.Layout.{first_data_zone}
 use Rattle.zd_model.specs.History.{HistoryEntry, IsLegal}
 use Rattle.zd_model.specs.Image.{Image}
-use Rattle.zd_model.specs.Safe.{IsSafe, base_at}
+use Rattle.zd_model.specs.Safe.{base_at}
 use Rattle.zd_disk.specs.OfGeometry.{IsImageOf}
 use Rattle.zd_disk.specs.Steps.{Wrote, WriteLeaves, WriteStep, count_of}
 use Rattle.zd_disk.specs.Told.{next_count}

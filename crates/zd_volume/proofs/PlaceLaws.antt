@@ -1,16 +1,12 @@
 -- What a call makes of the content by given tables.
-use Rattle.std.proofs.Common.{◌≡◌, ◌≢◌, ◌⊎◌, ℕ, ◌+◌, ◌*◌, ◌/◌, ◌%◌, ◌<◌, ◌≤◌, Bool, true, false, cond, List, Option, Some, None, inl, inr, refl, ap, sym, ◌∙◌, subst, arith}
+use Rattle.std.proofs.Common.{◌≡◌, ◌≢◌, ◌⊎◌, ℕ, ◌+◌, ◌*◌, ◌/◌, ◌%◌, ◌<◌, ◌≤◌, true, List, Option, Some, None, inl, inr, refl, ap, sym, ◌∙◌, subst, arith}
 use Rattle.std.proofs.lemmas.Bool.{cases_lt}
-use Rattle.std.proofs.lemmas.Nat.{div-add-mod'}
 use Rattle.std.specs.Prelude.{IsTrue}
-use Rattle.std.specs.Option.{option_map_or, option_or}
 use Rattle.zd_base.specs.Geometry.{Shape, zone_count}
 use Rattle.zd_base.specs.Layout.{first_data_zone}
 use Rattle.zd_base.specs.declared.layout.Layout.{Layout}
-use Rattle.zd_model.specs.Bytes.{zero_sector}
 use Rattle.zd_model.specs.Image.{Image, SameZone}
-use Rattle.zd_model.specs.Tables.{MapFollowsRules, NamesZone, Tables, entry_of, is_valid, sector_of, where_valid}
-use Rattle.zd_model.specs.declared.metadata.MapEntry.{MapEntry}
+use Rattle.zd_model.specs.Tables.{MapFollowsRules, NamesZone, Tables, entry_of, is_valid, sector_of}
 use Rattle.zd_disk.specs.Steps.{Wrote, WriteStep, count_of, piece}
 use Rattle.zd_disk.specs.OfGeometry.{IsImageOf}
 use Rattle.zd_model.specs.Places.{spot, zone_at}

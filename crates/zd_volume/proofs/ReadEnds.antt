@@ -1,8 +1,7 @@
 -- A read after a run: it goes on, or its piece is answered.
-use Rattle.std.proofs.Common.{◌≡◌, ℕ, ◌+◌, ◌-◌, ◌*◌, ◌/◌, ◌%◌, ◌<◌, ◌≤◌, List, [], length, Option, refl, sym, ap, ◌∙◌, subst, arith, inl}
+use Rattle.std.proofs.Common.{◌≡◌, ℕ, ◌+◌, ◌-◌, ◌*◌, ◌<◌, ◌≤◌, [], length, sym, ap, ◌∙◌, subst, arith}
 use Rattle.std.specs.List.{concat, slice_range}
-use Rattle.zd_model.specs.Image.{Image}
-use Rattle.zd_model.specs.Plain.{Answer, answer_in_range, reply_within}
+use Rattle.zd_model.specs.Plain.{answer_in_range, reply_within}
 use Rattle.zd_model.specs.Plain.Answer.{Got}
 use Rattle.zd_model.specs.Requests.{Operation, block_count, first_sector, operation_of, sector_count}
 use Rattle.zd_model.specs.Requests.Operation.{Reading}

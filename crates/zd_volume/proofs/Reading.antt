@@ -1,6 +1,5 @@
 -- What a call makes of the image that the disk reads as.
-use Rattle.std.proofs.Common.{ℕ, ◌≤◌, List, ◌∙◌, arith}
-use Rattle.zd_base.specs.Layout.{first_data_zone}
+use Rattle.std.proofs.Common.{ℕ, List, ◌∙◌}
 use Rattle.zd_model.specs.History.{HistoryEntry}
 use Rattle.zd_model.specs.Image.{Image}
 use Rattle.zd_disk.specs.OfGeometry.{IsImageOf}

@@ -1,5 +1,5 @@
 -- Steps without a writing call: what is always true of a volume stays true.
-use Rattle.std.proofs.Common.{◌≡◌, ℕ, ◌*◌, ◌≤◌, List, Option, Some, None, refl, ap, ap₂, sym, ◌∙◌, subst, arith}
+use Rattle.std.proofs.Common.{◌≡◌, ℕ, ◌*◌, List, Some, None, refl, ap, ap₂, sym, ◌∙◌, subst, arith}
 use Rattle.zd_base.specs.Geometry.{Shape}
 use Rattle.zd_model.specs.declared.metadata.Super.{Super}
 use Rattle.zd_model.specs.History.{IsLegal}
