@@ -8,7 +8,6 @@ use Rattle.zd_model.specs.Image.{Image, Same}
 use Rattle.zd_model.specs.Safe.{base_at, last_at}
 use Rattle.zd_model.specs.Stops.{AreBy, IsFlushAt, MayHold}
 use Rattle.zd_model.specs.Super.{HasBlock}
-use Rattle.zd_model.specs.Tables.{entry_of}
 use Rattle.zd_model.proofs.HeldLaws.{AreBy-append}
 use Rattle.zd_model.proofs.LastLaws.{flushes_reset, last_may, lasts_stay, pasts}
 use Rattle.zd_model.proofs.SafeHistory.{safe_more}
@@ -17,17 +16,16 @@ use Rattle.zd_disk.specs.View.{Calls, IsDurable, Turns, View}
 use Rattle.zd_sets.specs.Stages.{HasSet, next_head}
 use Rattle.zd_sets.proofs.StageLaws.{all_written}
 use Rattle.zd_volume.specs.Commits.{after_end}
-use Rattle.zd_volume.specs.Jobs.{HasCopies, HasTarget, IsJobOrNone}
+use Rattle.zd_volume.specs.Jobs.{HasCopies}
 use Rattle.zd_volume.specs.LeftImages.{MayBeLeft, ReadsAs}
 use Rattle.zd_volume.specs.Phases.{end_generation, end_phase, IsNextDirty, with_generation}
-use Rattle.zd_volume.specs.Sets.{AreSets, new_tables, old_tables, second, used}
+use Rattle.zd_volume.specs.Sets.{AreSets, new_tables, second, used}
 use Rattle.zd_volume.specs.Uses.{AreCandidates, AreUsed, FlagNamed, IsPhase}
 use Rattle.zd_volume.specs.Volumes.{IsKeptVolume, PlainVolume, sets_of}
 use Rattle.zd_volume.specs.declared.phase.Phase.{Phase}
 use Rattle.zd_volume.specs.declared.phase.Phase.TheVariants.{Idle}
-use Rattle.zd_volume.specs.declared.work.JobKind.{JobKind}
-use Rattle.zd_volume.specs.declared.work.JobKind.TheVariants.{Empty, Move, Append, Merge}
 use Rattle.zd_volume.specs.declared.work.Work.{Work}
+use Rattle.zd_volume.proofs.EndUses.{job_ended}
 use Rattle.zd_volume.proofs.FaultEntries.{calm_more, done_none, faults_later, faults_none, none_calm}
 use Rattle.zd_volume.proofs.FlushPhases.{none_left, onward}
 use Rattle.zd_volume.proofs.Flushes.{left_is_read}
@@ -125,28 +123,6 @@ module _ (v : PlainVolume) (opening d : View) (was : IsKeptVolume v opening d) (
       → end_generation alone v.head.generation ≤ v.opening_generation + next_count v.since
   risen true one g = omega (arith, one, g)
   risen false one g = omega (arith, one, g)
-
-  jobs : (job : Option Work) → IsJobOrNone (sets_of v) v.pointers job → IsJobOrNone (sets_of w) v.pointers job
-  jobs None all = tt
-  jobs (Some work) all = record {
-    chunk = all.chunk;
-    entry = all.entry;
-    target = by_kind work.job.kind all.target;
-    inside = all.inside;
-    few = all.few;
-    run = all.run;
-    pointer = all.pointer;
-  }
-    where
-      by_kind : (kind : JobKind)
-          → HasTarget v.geometry (old_tables (sets_of v)) (new_tables (sets_of v)) kind
-          (entry_of (new_tables (sets_of v)) work.job.chunk) work.target
-          → HasTarget v.geometry (new_tables (sets_of v)) (new_tables (sets_of v)) kind
-          (entry_of (new_tables (sets_of v)) work.job.chunk) work.target
-      by_kind Empty t = t
-      by_kind Move t = (t.0, t.1, t.2, t.3, t.5, t.5)
-      by_kind Append t = t
-      by_kind Merge t = t
 
   -- the history with the flushes
   all_by : (es : List HistoryEntry) → AllByRecursion (IsFlushAt (next_count v.since)) es → AreBy (next_count v.since) es
@@ -261,7 +237,7 @@ module _ (v : PlainVolume) (opening d : View) (was : IsKeptVolume v opening d) (
           named = record { size = ends.names.size; each = ends.names.each };
           pointers = was.fixed.pointers;
           candidates = candidates;
-          job = jobs v.job was.fixed.job;
+          job = job_ended (sets_of v) (end_generation alone v.head.generation) v.pointers v.job was.fixed.job;
           room = was.fixed.room;
         };
         by_now = AreBy-append (next_count v.since) v.history entries (by_next v opening d was) (all_by entries flushes);
