@@ -153,12 +153,14 @@ module _ (v : PlainVolume) (opening d : View) (was : IsKeptVolume v opening d) (
   }
 
   -- the sets as the last flush leaves them
-  as_end : {c : Image} → ReadsAs v.phase (sets_of v) base v.history c → ReadsAs (end_phase alone) (sets_of v) base v.history c
+  as_end : {c : Image} → ReadsAs v.phase (sets_of v) base v.history c
+      → ReadsAs (end_phase alone) (sets_of v) base v.history c
   as_end {c} r = subst (λ (p : Phase). ReadsAs p (sets_of v) base v.history c) at_end.phase r
 
   abbrev HasNewSet : Bool → ℕ → Image → Type 0
   HasNewSet alone first c =
-      HasSet v.geometry first (used (sets_of v)) (with_generation (end_generation alone v.head.generation) v.head) v.fresh c
+      HasSet v.geometry first (used (sets_of v))
+      (with_generation (end_generation alone v.head.generation) v.head) v.fresh c
 
   sets : (alone : Bool) → (alone ≡ true → IsNextDirty v.dirty 1 None) → (c : Image)
       → ReadsAs (end_phase alone) (sets_of v) base v.history c
@@ -170,10 +172,11 @@ module _ (v : PlainVolume) (opening d : View) (was : IsKeptVolume v opening d) (
   sets true none c read =
       let clean_all = none_left (sets_of v) are v.dirty was.fixed.flags (none refl) in (
         all_written v.geometry 0 (used (sets_of v)) v.head v.committed v.fresh c
-            (onward (sets_of v) are v.dirty was.fixed.flags 0 v.head (used (sets_of v)) c (omega arith) clean_all read.first),
+            (onward (sets_of v) are v.dirty was.fixed.flags 0 v.head (used (sets_of v)) c
+            (omega arith) clean_all read.first),
         all_written v.geometry (second (sets_of v)) (used (sets_of v)) v.head v.committed v.fresh c
-            (onward (sets_of v) are v.dirty was.fixed.flags (second (sets_of v)) v.head (used (sets_of v)) c (omega arith)
-            clean_all read.second),
+            (onward (sets_of v) are v.dirty was.fixed.flags (second (sets_of v)) v.head (used (sets_of v)) c
+            (omega arith) clean_all read.second),
       )
 
   left : (c : Image) → ReadsAs v.phase (sets_of v) base v.history c
@@ -185,7 +188,8 @@ module _ (v : PlainVolume) (opening d : View) (was : IsKeptVolume v opening d) (
         first = st.0;
         second = st.1;
         by_old = λ _ n l.
-            subst (λ (x : List ℕ). MayHold base (v.history ++ entries) (next_count v.since) n x) (sym (is.served n l)) (may n);
+            subst (λ (x : List ℕ). MayHold base (v.history ++ entries) (next_count v.since) n x) (sym (is.served n l))
+            (may n);
         below_old = λ _. is.below;
         below_new = λ t. absurd t;
         by_new = λ t. absurd t;
@@ -242,7 +246,8 @@ module _ (v : PlainVolume) (opening d : View) (was : IsKeptVolume v opening d) (
         };
         by_now = AreBy-append (next_count v.since) v.history entries (by_next v opening d was) (all_by entries flushes);
         generation = λ one g. risen alone one g;
-        faulted = faults_none v.history entries (done_none (next_count v.since) entries flushes) v.stopped opening.faults
+        faulted = faults_none v.history entries (done_none (next_count v.since) entries flushes) v.stopped
+            opening.faults
             e.faults (faults_later v.history v.stopped opening.faults d.faults e.faults was.faulted call.stays.later);
         calm = λ still. calm_more v.history entries (was.calm still)
             (none_calm entries (done_none (next_count v.since) entries flushes));
@@ -261,7 +266,8 @@ module _ (v : PlainVolume) (opening d : View) (was : IsKeptVolume v opening d) (
             (safe_now v opening d was v.phase v.since r c t (omega arith) known.new_of
             (left_same v opening d was i c v.since (omega arith) known.left_of s known.left_is));
         after = λ r i c one known s t small l.
-            safe_of (sets_of w) Idle base (v.history ++ entries) (next_count v.since) c are_sets known.new_of (was.based r t)
+            safe_of (sets_of w) Idle base (v.history ++ entries) (next_count v.since) c are_sets known.new_of
+            (was.based r t)
             (λ x. absurd x)
             (left c (read_same v opening d was r c known.reads_of
             (left_is_read v opening d e runs was turns call durable r c t small l) known.reads).read);

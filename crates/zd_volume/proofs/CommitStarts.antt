@@ -57,7 +57,8 @@ kept_begin v m opening d was idle is small =
           subst (λ (p : Phase). MayBeLeft p (sets_of v) (base_at opening.zones) v.history v.since c) idle may in
           record {
             first = f.first;
-            second = before_mixed v.geometry (second (sets_of v)) (used (sets_of v)) v.head v.committed v.fresh c f.second;
+            second = before_mixed v.geometry (second (sets_of v))
+                (used (sets_of v)) v.head v.committed v.fresh c f.second;
             by_old = f.by_old;
             below_old = f.below_old;
             below_new = λ t. absurd t;

@@ -30,7 +30,8 @@ module _ (s : Sets) (are : AreSets s) (base : List (List ℕ)) (size : length ba
     (did : ClearsRange s (chunk_touched s.geometry.zone_blocks e.what) (first_of s.geometry.zone_blocks e.what)
     (end_of s.geometry.zone_blocks e.what) bytes) where
   -- the sectors of another chunk are as they were
-  other_last : (chunk x j : ℕ) → chunk ≢ chunk_touched s.geometry.zone_blocks e.what → x < s.geometry.zone_blocks → j < 8
+  other_last : (chunk x j : ℕ) → chunk ≢ chunk_touched s.geometry.zone_blocks e.what → x < s.geometry.zone_blocks
+      → j < 8
       → last_at base (h ++ e ∷ []) (sector_of_chunk s.geometry chunk x j)
       ≡ last_at base h (sector_of_chunk s.geometry chunk x j)
   other_last chunk x j off within few = elim (covers_cases e.what (sector_of_chunk s.geometry chunk x j)) [
@@ -39,7 +40,8 @@ module _ (s : Sets) (are : AreSets s) (base : List (List ℕ)) (size : length ba
     | inr out ↦ last_outside s base size h e is done (sector_of_chunk s.geometry chunk x j) out
   ]
 
-  are_dropped : (w : Work) (pointers buffer : List ℕ) (i : Image) → w.job.chunk ≢ chunk_touched s.geometry.zone_blocks e.what
+  are_dropped : (w : Work) (pointers buffer : List ℕ) (i : Image)
+      → w.job.chunk ≢ chunk_touched s.geometry.zone_blocks e.what
       → IsJob s pointers w → AreCopied s buffer w base h i
       → AreCopied (record s { new = bytes }) buffer w base (h ++ e ∷ []) i
   are_dropped w pointers buffer i off job copies = record {

@@ -65,11 +65,13 @@ module _ (v : PlainVolume) (opening now : View) (runs : v.stopped ≡ None) (was
     (idle : v.phase ≡ Idle) (e : HistoryEntry) (is : DiscardsBlocks (sets_of v) e.what) (done : e.reply ≡ Done)
     (at : e.at ≡ v.since) (off : NoJobOn v.job (chunk_touched v.geometry.zone_blocks e.what))
     (bytes : List ℕ) (dirty : List Bool) (classes : List (Option JobClass))
-    (did : ClearsRange (sets_of v) (chunk_touched v.geometry.zone_blocks e.what) (first_of v.geometry.zone_blocks e.what)
+    (did : ClearsRange (sets_of v) (chunk_touched v.geometry.zone_blocks e.what)
+    (first_of v.geometry.zone_blocks e.what)
     (end_of v.geometry.zone_blocks e.what) bytes)
     (marks : MarksChanged v.fresh bytes v.dirty dirty)
     (gives : GivesClass (chunk_touched v.geometry.zone_blocks e.what)
-    (class_in v.geometry v.pointers (tables_in v.geometry v.head.layout bytes) (chunk_touched v.geometry.zone_blocks e.what))
+    (class_in v.geometry v.pointers (tables_in v.geometry v.head.layout bytes)
+    (chunk_touched v.geometry.zone_blocks e.what))
     v.standings.classes classes) where
   abbrev c : ℕ
   c = chunk_touched v.geometry.zone_blocks e.what
@@ -158,7 +160,8 @@ drops_by v p middle bytes half marked classes are is one two gives = record {
 -- it keeps the volume
 pub kept_drop : (from to : PlainVolume) (p : Piece) (opening now : View) → from.stopped ≡ None
     → IsKeptVolume from opening now → from.phase ≡ Idle → DiscardsBlocks (sets_of from) p.what
-    → NoJobOn from.job (chunk_touched from.geometry.zone_blocks p.what) → DropsRange from to p → IsKeptVolume to opening now
+    → NoJobOn from.job (chunk_touched from.geometry.zone_blocks p.what) → DropsRange from to p
+    → IsKeptVolume to opening now
 kept_drop from to p opening now runs was idle is off drops =
     subst (λ (w : PlainVolume). IsKeptVolume w opening now) (sym drops.rest)
     (kept_after from opening now runs was idle (answered p answers.Done from.since) is refl refl off to.fresh to.dirty

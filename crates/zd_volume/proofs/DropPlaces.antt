@@ -106,7 +106,8 @@ module _ (s : Sets) (what : What) (is : DiscardsBlocks s what) where
 
   -- its sectors are those of its blocks of its chunk
   pub covers_within : (n : ℕ) → Covers what n
-      → IsWithin s.geometry.zone_blocks (chunk_touched s.geometry.zone_blocks what) (first_of s.geometry.zone_blocks what)
+      → IsWithin s.geometry.zone_blocks (chunk_touched s.geometry.zone_blocks what)
+      (first_of s.geometry.zone_blocks what)
       (end_of s.geometry.zone_blocks what) n
   covers_within n covers =
       let whole = whole_blocks what is.discards in
@@ -122,7 +123,8 @@ module _ (s : Sets) (what : What) (is : DiscardsBlocks s what) where
       (ap (λ (k : ℕ). k / b) at ∙ div-mul-add c b r few, omega (arith, rest, low), omega (arith, rest, high))
 
   pub within_covers : (n : ℕ)
-      → IsWithin s.geometry.zone_blocks (chunk_touched s.geometry.zone_blocks what) (first_of s.geometry.zone_blocks what)
+      → IsWithin s.geometry.zone_blocks (chunk_touched s.geometry.zone_blocks what)
+      (first_of s.geometry.zone_blocks what)
       (end_of s.geometry.zone_blocks what) n
       → Covers what n
   within_covers n h =
@@ -134,7 +136,8 @@ module _ (s : Sets) (what : What) (is : DiscardsBlocks s what) where
 
   -- one that is outside isn't within
   pub outside_within : (n : ℕ) → IsOutside what n
-      → IsWithin s.geometry.zone_blocks (chunk_touched s.geometry.zone_blocks what) (first_of s.geometry.zone_blocks what)
+      → IsWithin s.geometry.zone_blocks (chunk_touched s.geometry.zone_blocks what)
+      (first_of s.geometry.zone_blocks what)
       (end_of s.geometry.zone_blocks what) n → ⊥
   outside_within n off h =
       let c = within_covers n h in

@@ -33,7 +33,8 @@ use Rattle.zd_volume.proofs.ServesLaws.{serves_last}
 use Rattle.zd_volume.proofs.Still.{faulted_later, kept_still}
 
 -- an answer that isn't Done changes no sector, and acknowledges no flush
-after_quiet : (array : List (List ℕ)) (what : What) (reply : Answer) → reply ≢ Done → entry_after array what reply ≡ array
+after_quiet : (array : List (List ℕ)) (what : What) (reply : Answer) → reply ≢ Done
+    → entry_after array what reply ≡ array
 after_quiet array what (Got bytes) quiet = refl
 after_quiet array what Done quiet = absurd (quiet refl)
 after_quiet array what Range quiet = refl
@@ -111,7 +112,8 @@ module _ (v : PlainVolume) (opening u x : View) (runs : v.stopped ≡ None) (io 
               served = λ n l. now.read.served n l ∙ sym (last_same n);
             };
             pointers = now.pointers;
-            copies = copies_grow (sets_of v) v.buffer v.job base v.history (with_entry v p reply).history r last_same now.copies;
+            copies = copies_grow (sets_of v) v.buffer v.job base v.history
+                (with_entry v p reply).history r last_same now.copies;
           };
           stops = λ _ r c t may.
               left_history v.phase (sets_of v) base v.history (with_entry v p reply).history v.since c

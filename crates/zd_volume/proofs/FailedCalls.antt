@@ -24,7 +24,8 @@ failed_with v entries = record v {
   stopped = Some Why.Device;
 }
 
-pub kept_failed_call : (v : PlainVolume) (entries : List HistoryEntry) (opening d e : View) (step : Image → Image → Image → Type 0)
+pub kept_failed_call : (v : PlainVolume) (entries : List HistoryEntry) (opening d e : View)
+    (step : Image → Image → Image → Type 0)
     → v.stopped ≡ None → IsKeptVolume v opening d → MakesCall v (failed_with v entries) d e step → HasFailed d e
     → AllByRecursion (IsFailedFlushAt (next_count v.since)) entries
     → ((r : Image) → d.zones ≡ Some r → IsLegal (base_at opening.zones) v.history

@@ -14,7 +14,8 @@ not_done at e is = ap₂ (λ (w : What) (a : Answer). is_done_flush w a) is.fail
 
 pub failed_hold : (base : List (List ℕ)) (at k n : ℕ) (v : List ℕ) (h es : List HistoryEntry)
     → AllByRecursion (IsFailedFlushAt at) es → MayHold base h k n v → MayHold base (h ++ es) k n v
-failed_hold base at k n v h [] all may = subst (λ (g : List HistoryEntry). MayHold base g k n v) (sym (append-nil h)) may
+failed_hold base at k n v h [] all may =
+    subst (λ (g : List HistoryEntry). MayHold base g k n v) (sym (append-nil h)) may
 failed_hold base at k n v h (e ∷ es) all may =
     subst (λ (g : List HistoryEntry). MayHold base g k n v) (append_assoc h (e ∷ []) es)
     (failed_hold base at k n v (h ++ e ∷ []) es all.1 (no_flush base h e k n v (not_done at e all.0) may))

@@ -109,6 +109,8 @@ module _ (v : PlainVolume) (are : AreSets (sets_of v)) where
         let conv = ap (λ (g : Shape). g.conv) of.geometry in
         let size = ap (λ (g : Shape). g.zone_blocks) of.geometry in
         elim (cases_lt z v.geometry.conv) [
-          | inl low ↦ (let full = of.image.conventional z (omega (arith, low, conv)) in omega (arith, full, size, inside))
+          | inl low ↦
+              let full = of.image.conventional z (omega (arith, low, conv)) in
+              omega (arith, full, size, inside)
           | inr high ↦ below z x high run_zone inside valid
         ]

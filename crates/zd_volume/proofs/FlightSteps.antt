@@ -35,12 +35,14 @@ module _ (v : PlainVolume) (are : AreSets (sets_of v)) (told : Option Image) (f 
   blocks_inside = (let h = is.piece.chunk in omega (arith, h))
 
   module _ (zone : Option ℕ) (count : ℕ)
-      (run : IsPlacedRun (place_now v (chunk_of v f.piece.what)) (next_sector v f / 8) (rounded_up (end_sector v f) 8) zone count) where
+      (run : IsPlacedRun (place_now v (chunk_of v f.piece.what)) (next_sector v f / 8)
+      (rounded_up (end_sector v f) 8) zone count) where
     pub run_is : IsRunOfRead v f zone count
     run_is =
         subst (λ (at : ℕ). IsPlacedRun (place_now v (chunk_of v f.piece.what)) at
         (first_in_chunk v f.piece.what / 8 + block_count f.piece.what) zone count) block_is
-        (subst (λ (end : ℕ). IsPlacedRun (place_now v (chunk_of v f.piece.what)) (next_sector v f / 8) end zone count) last_is run)
+        (subst (λ (end : ℕ). IsPlacedRun (place_now v (chunk_of v f.piece.what)) (next_sector v f / 8) end zone count)
+        last_is run)
 
     inside : f.done + count ≤ block_count f.piece.what
     inside = (let a = block_is in let b = last_is in let i = run.inside in omega (arith, a, b, i))
@@ -116,7 +118,8 @@ module _ (v : PlainVolume) (are : AreSets (sets_of v)) (told : Option Image) (f 
               f.bytes.items
               (run_of (sector_in zone i) (next_sector v f) (stop_sector v f count - next_sector v f))
               (omega (arith, ends, more)) (omega arith) (omega (arith, more)) run.same (is.read.bytes i here) refl
-              ∙ ap (λ (n : ℕ). concat (slice_range (serves v i) (first_sector f.piece.what) (first_sector f.piece.what + n)))
+              ∙ ap (λ (n : ℕ). concat (slice_range (serves v i) (first_sector f.piece.what)
+              (first_sector f.piece.what + n)))
               (sym w);
           room = (let r = is.read.room in omega (arith, r, size, room));
         };

@@ -110,7 +110,8 @@ module _ (v : PlainVolume) (opening d e : View) (runs : v.stopped ≡ None) (was
         past = λ k n x l m. m;
         reads = λ _ r j t u of_r of_j now. reads turns r j t u of_r of_j now;
         before = λ r i c one known w t.
-            safe_now v opening d was q v.since r c t (omega arith) known.new_of (moved v.since r i c (omega arith) known w);
+            safe_now v opening d was q v.since r c t (omega arith) known.new_of
+            (moved v.since r i c (omega arith) known w);
         after = λ r i c one known w t _ _.
             safe_now v opening d was q (next_count v.since) r c t (omega arith) known.new_of
             (moved (next_count v.since) r i c (omega arith) known w);

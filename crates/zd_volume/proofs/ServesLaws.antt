@@ -37,7 +37,8 @@ pub serves_last : (v : PlainVolume) (opening now : View) → IsKeptVolume v open
     → (i : Image) → now.zones ≡ Some i
     → served v.geometry.zone_blocks (new_tables (sets_of v)) i.sector ≡ last_array (base_at opening.zones) v.history
 serves_last v opening now kept runs i there =
-    reads_list v.phase (sets_of v) (base_at opening.zones) v.history i (kept.based i there) (kept.reads runs i there).read
+    reads_list v.phase (sets_of v) (base_at opening.zones) v.history i (kept.based i there)
+    (kept.reads runs i there).read
 
 -- the pointer of a sequential zone is that of the disk, rounded up
 pub pointer_held : (v : PlainVolume) (opening now : View) → IsKeptVolume v opening now → v.stopped ≡ None
