@@ -19,7 +19,7 @@ use Rattle.zd_volume.specs.declared.work.JobKind.{JobKind}
 use Rattle.zd_volume.specs.declared.work.JobKind.TheVariants.{Empty, Move, Append, Merge}
 use Rattle.zd_volume.specs.declared.work.Work.{Work}
 
--- USES
+-- THE USE of a zone before limbo ended
 free_before : (u : ZoneUse) → after_limbo u ≡ Free → (u ≡ Free) ⊎ (u ≡ Limbo)
 free_before Meta is = absurd (let f : ⊥ = cc in f)
 free_before Free is = inl refl

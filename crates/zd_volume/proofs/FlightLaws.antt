@@ -22,7 +22,7 @@ use Rattle.zd_volume.specs.Flights.{chunk_of, first_in_chunk, place_now, sectors
 use Rattle.zd_volume.specs.Sets.{AreSets}
 use Rattle.zd_volume.specs.Volumes.{PlainVolume, sets_of}
 
--- NUMBERS: a request whose first sector is sector `from` of a chunk of b blocks
+-- THE NUMBERS of a request whose first sector is sector `from` of a chunk of b blocks
 module _ (b : ℕ) (what : What) where
   from_rest : first_sector what % (8 * b) % 8 ≡ first_sector what % 8
   from_rest =

@@ -37,7 +37,7 @@ WritesSuper v first =
 abbrev pub FlushesOnce : View → View → Type 0
 FlushesOnce = Calls (λ _. Same) (λ _ _. Same)
 
--- the one call that belongs to a phase (scope 3.2); in Idle that of a commit that begins
+-- the one call that belongs to a phase; in Idle that of a commit that begins
 abbrev pub MakesPhaseCall : Phase → PlainVolume → View → View → Type 0
 MakesPhaseCall Idle v d e =
     ((dirty_from v.dirty 1 ≡ 0) × FlushesOnce d e)

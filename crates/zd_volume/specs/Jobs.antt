@@ -43,7 +43,7 @@ class_by g pointers t (Some z) None =
 class_by g pointers t (Some z) (Some b) =
     class_buffered (first_valid_block g.zone_blocks t b) (slice_index pointers z)
 
--- what a chunk can be picked for (scope 3.1): the pointers are in blocks, one for each zone
+-- what a chunk can be picked for: the pointers are in blocks, one for each zone
 abbrev pub class_in : Shape → List ℕ → Tables → ℕ → Option JobClass
 class_in g pointers t c = class_by g pointers t (entry_of t c).zone (entry_of t c).buffer
 
