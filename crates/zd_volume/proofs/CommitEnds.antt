@@ -13,6 +13,7 @@ use Rattle.zd_model.proofs.LastLaws.{flushes_reset, last_may, lasts_stay, pasts}
 use Rattle.zd_model.proofs.SafeHistory.{safe_more}
 use Rattle.zd_disk.specs.Told.{next_count}
 use Rattle.zd_disk.specs.View.{Calls, IsDurable, Turns, View}
+use Rattle.zd_disk.proofs.StepGrowth.{grows_by_flush}
 use Rattle.zd_sets.specs.Stages.{HasSet, next_head}
 use Rattle.zd_sets.proofs.StageLaws.{all_written}
 use Rattle.zd_volume.specs.Commits.{after_end}
@@ -31,7 +32,7 @@ use Rattle.zd_volume.proofs.FlushPhases.{none_left, onward}
 use Rattle.zd_volume.proofs.Flushes.{left_is_read}
 use Rattle.zd_volume.proofs.Images.{safe_of}
 use Rattle.zd_volume.proofs.InPhases.{both_at, by_next, left_same, read_same, safe_now}
-use Rattle.zd_volume.proofs.Kept.{grows_flush, kept_call, told_before}
+use Rattle.zd_volume.proofs.Kept.{kept_call, told_before}
 
 -- what is needed of the values that are made anew
 pub record EndsAs (v : PlainVolume) (clean named : List Bool) (division : Division) : Type 0 where
@@ -229,7 +230,7 @@ module _ (v : PlainVolume) (opening d : View) (was : IsKeptVolume v opening d) (
         since = refl;
         stays = call.stays;
         calls = call.calls;
-        grows = grows_flush d e call;
+        grows = grows_by_flush call;
         from = told_before d e Same turns;
       })
       (record {

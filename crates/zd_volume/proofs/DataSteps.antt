@@ -14,6 +14,7 @@ use Rattle.zd_disk.specs.OfGeometry.{IsImageOf}
 use Rattle.zd_disk.specs.Steps.{ResetLeaves, ResetStep, WriteLeaves, WriteStep, count_of}
 use Rattle.zd_disk.specs.Told.{next_count}
 use Rattle.zd_disk.specs.View.{Calls, HasFailed, Turns, View}
+use Rattle.zd_disk.proofs.StepGrowth.{grows_by_reset, grows_by_write}
 use Rattle.zd_volume.specs.Commits.{stopped_by}
 use Rattle.zd_volume.specs.FaultCounts.{CountsFaults}
 use Rattle.zd_volume.specs.LeftImages.{MayBeLeft}
@@ -25,7 +26,7 @@ use Rattle.zd_volume.proofs.Choices.{sets_apart}
 use Rattle.zd_volume.proofs.FaultEntries.{faults_failed, faults_later}
 use Rattle.zd_volume.proofs.Images.{left_copy, left_reset}
 use Rattle.zd_volume.proofs.InPhases.{by_next, safe_now}
-use Rattle.zd_volume.proofs.Kept.{grows_reset, grows_write, kept_call, told_before}
+use Rattle.zd_volume.proofs.Kept.{kept_call, told_before}
 
 -- only what was done goes on
 pub done_runs : (done : Bool) → stopped_by done ≡ None → done ≡ true
@@ -97,7 +98,7 @@ module _ (v : PlainVolume) (opening d e : View) (runs : v.stopped ≡ None) (was
         since = refl;
         stays = call.stays;
         calls = call.calls;
-        grows = grows_write d e z start bytes call;
+        grows = grows_by_write z start bytes call;
         from = told_before d e R turns;
       })
       (record {
@@ -141,7 +142,7 @@ module _ (v : PlainVolume) (opening d e : View) (runs : v.stopped ≡ None) (was
         since = refl;
         stays = call.stays;
         calls = call.calls;
-        grows = grows_reset d e z call;
+        grows = grows_by_reset z call;
         from = told_before d e R turns;
       })
       (record {

@@ -17,6 +17,7 @@ use Rattle.zd_disk.specs.OfGeometry.{IsImageOf}
 use Rattle.zd_disk.specs.Steps.{WriteLeaves, WriteStep, count_of, piece}
 use Rattle.zd_disk.specs.Told.{next_count}
 use Rattle.zd_disk.specs.View.{Calls, Turns, View}
+use Rattle.zd_disk.proofs.StepGrowth.{grows_by_write}
 use Rattle.zd_volume.specs.Commits.{stopped_by}
 use Rattle.zd_volume.specs.FaultCounts.{AreCalm, CountsFaults}
 use Rattle.zd_volume.specs.LeftImages.{MayBeLeft}
@@ -28,7 +29,7 @@ use Rattle.zd_volume.proofs.Choices.{sets_apart}
 use Rattle.zd_volume.proofs.DataSteps.{NowAfter, done_runs}
 use Rattle.zd_volume.proofs.Images.{left_write, safe_of}
 use Rattle.zd_volume.proofs.InPhases.{next_more}
-use Rattle.zd_volume.proofs.Kept.{grows_write, kept_call, told_before}
+use Rattle.zd_volume.proofs.Kept.{kept_call, told_before}
 
 abbrev pub after_write : PlainVolume → List ℕ → List Bool → Division → List ℕ → Standings → HistoryEntry → Option Why
     → PlainVolume
@@ -74,7 +75,7 @@ module _ (v : PlainVolume) (opening d e : View) (runs : v.stopped ≡ None) (was
         since = refl;
         stays = call.stays;
         calls = call.calls;
-        grows = grows_write d e z start bytes call;
+        grows = grows_by_write z start bytes call;
         from = told_before d e R turns;
       })
       (record {

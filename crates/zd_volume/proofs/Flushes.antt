@@ -17,8 +17,9 @@ use Rattle.zd_volume.specs.declared.phase.Phase.{Phase}
 use Rattle.zd_volume.proofs.FailedCalls.{failed_with, kept_failed_call}
 use Rattle.zd_volume.proofs.FaultEntries.{faults_later}
 use Rattle.zd_volume.proofs.InPhases.{both_at, by_next, fixed_in, left_same, read_same, safe_now}
-use Rattle.zd_volume.proofs.Kept.{grows_flush, kept_call, told_before}
+use Rattle.zd_volume.proofs.Kept.{kept_call, told_before}
 use Rattle.zd_disk.proofs.SameSteps.{Same-trans}
+use Rattle.zd_disk.proofs.StepGrowth.{grows_by_flush}
 
 -- what a flush that was done makes of an image that a stop might leave and that the disk reads as
 pub record Narrows (s : Sets) (p q : Phase) : Type 0 where
@@ -46,7 +47,7 @@ module _ (v : PlainVolume) (opening d e : View) (runs : v.stopped ≡ None) (was
         since = refl;
         stays = call.stays;
         calls = call.calls;
-        grows = grows_flush d e call;
+        grows = grows_by_flush call;
         from = told_before d e Same turns;
       })
       (record {
@@ -91,7 +92,7 @@ module _ (v : PlainVolume) (opening d e : View) (runs : v.stopped ≡ None) (was
         since = refl;
         stays = call.stays;
         calls = call.calls;
-        grows = grows_flush d e call;
+        grows = grows_by_flush call;
         from = told_before d e Same turns;
       }) rose all legal
       (λ k r i c le known w t. safe_now v opening d was v.phase k r c t le known.new_of

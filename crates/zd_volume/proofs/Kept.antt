@@ -3,31 +3,17 @@
 use Rattle.std.proofs.Common.{◌≡◌, ℕ, ◌+◌, ◌-◌, ◌*◌, ◌^◌, ◌<◌, ◌≤◌, List, Some, None, ap, ap₂, sym, ◌∙◌, subst, arith}
 use Rattle.zd_base.specs.Geometry.{Shape}
 use Rattle.zd_base.specs.declared.layout.Layout.{Layout}
-use Rattle.zd_model.specs.Image.{Image, Same}
+use Rattle.zd_model.specs.Image.{Image}
 use Rattle.zd_model.specs.Safe.{IsSafe, base_at}
 use Rattle.zd_model.proofs.SafeHistory.{safe_more}
 use Rattle.zd_disk.specs.Growth.{Grows}
 use Rattle.zd_disk.specs.OfGeometry.{IsImageOf}
-use Rattle.zd_disk.specs.Steps.{ResetLeaves, ResetStep, WriteLeaves, WriteStep}
-use Rattle.zd_disk.specs.Told.{WhereTold}
-use Rattle.zd_disk.specs.View.{Calls, Turns, View}
-use Rattle.zd_disk.proofs.BeforeCalls.{leaves_step, reset_leaves_step}
+use Rattle.zd_disk.specs.View.{Turns, View}
 use Rattle.zd_disk.proofs.Moments.{two_moments}
-use Rattle.zd_disk.proofs.ToldLaws.{Both-get, Both-new, Some-same}
+use Rattle.zd_disk.proofs.StepGrowth.{grows_more}
+use Rattle.zd_disk.proofs.ToldLaws.{Both-new, Some-same}
 use Rattle.zd_volume.specs.Sets.{device_sectors}
 use Rattle.zd_volume.specs.Volumes.{IsKeptVolume, Known, Leads, MakesCall, PlainVolume, sets_of}
-
--- growth, by wider steps
-pub grows_more : (c : ℕ) (past now : ℕ → Image → Type 0) (begun ended begun' ended' : Image → Image → Type 0)
-    → ((d i : Image) → past c d → now c i → begun d i → begun' d i)
-    → ((d i : Image) → past c d → now (c + 1) i → ended d i → ended' d i)
-    → Grows c past now begun ended → Grows c past now begun' ended'
-grows_more c past now begun ended begun' ended' first last h = record {
-  only = h.only;
-  kept = h.kept;
-  under_way = λ i l. (let from = h.under_way i l in (from.0, from.1, first from.0 i from.1 l from.2));
-  returned = λ i l. (let from = h.returned i l in (from.0, from.1, last from.0 i from.1 l from.2));
-}
 
 module _ (v w : PlainVolume) (opening u x : View) (step : Image → Image → Image → Type 0)
     (runs : v.stopped ≡ None) (was : IsKeptVolume v opening u) (did : MakesCall v w u x step) where
@@ -147,30 +133,8 @@ module _ (v w : PlainVolume) (opening u x : View) (step : Image → Image → Im
 abbrev pub Keeps : PlainVolume → PlainVolume → Type 0
 Keeps v w = (w.geometry ≡ v.geometry) × (w.head.layout ≡ v.head.layout) × (w.opening_generation ≡ v.opening_generation)
 
--- the growth of a write, of a reset and of a flush, as the calls of the disk tell it
+-- it was told before a call where it is told after it
 module _ (u x : View) where
   pub told_before : (R : Image → Image → Type 0) → Turns R u x → (j : Image) → x.zones ≡ Some j
       → (r : Image) × (u.zones ≡ Some r)
   told_before R turns j there = (let from = Both-new u.zones x.zones R j turns.reads there in (from.0, from.1))
-
-  pub grows_write : (z start : ℕ) (bytes : List ℕ)
-      → Calls (λ r. WriteStep r z start bytes) (λ r j. WriteLeaves r j z start bytes) u x
-      → x.calls < 2 ^ 64 - 1
-      → WhereTold u.zones (λ r. Grows u.calls u.left x.left (WriteStep r z start bytes) (WriteStep r z start bytes))
-  grows_write z start bytes call small r t =
-      let both = Both-get u.zones x.zones _ r (call.left small) t in
-      grows_more u.calls u.left x.left (WriteStep r z start bytes) (WriteLeaves r both.0 z start bytes)
-      (WriteStep r z start bytes) (WriteStep r z start bytes)
-      (λ i c could can s. s) (λ i c could can s. leaves_step r both.0 z start bytes i c s) both.2
-
-  pub grows_reset : (z : ℕ) → Calls (λ _. ResetStep z) (λ _ j. ResetLeaves j z) u x
-      → x.calls < 2 ^ 64 - 1
-      → WhereTold u.zones (λ r. Grows u.calls u.left x.left (ResetStep z) (ResetStep z))
-  grows_reset z call small r t =
-      let both = Both-get u.zones x.zones _ r (call.left small) t in
-      grows_more u.calls u.left x.left (ResetStep z) (ResetLeaves both.0 z) (ResetStep z) (ResetStep z)
-      (λ i c could can s. s) (λ i c could can s. reset_leaves_step both.0 z i c s) both.2
-
-  pub grows_flush : Calls (λ _. Same) (λ _ _. Same) u x → x.calls < 2 ^ 64 - 1
-      → WhereTold u.zones (λ r. Grows u.calls u.left x.left Same Same)
-  grows_flush call small r t = (let both = Both-get u.zones x.zones _ r (call.left small) t in both.2)

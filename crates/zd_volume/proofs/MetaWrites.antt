@@ -10,6 +10,7 @@ use Rattle.zd_disk.specs.OfGeometry.{IsImageOf}
 use Rattle.zd_disk.specs.Steps.{Wrote, WriteLeaves, WriteStep, count_of}
 use Rattle.zd_disk.specs.Told.{next_count}
 use Rattle.zd_disk.specs.View.{Calls, HasFailed, Turns, View}
+use Rattle.zd_disk.proofs.StepGrowth.{grows_by_write}
 use Rattle.zd_sets.specs.Stages.{InStage, IsWritten}
 use Rattle.zd_sets.specs.Writes.{WrotePart}
 use Rattle.zd_sets.proofs.MixLaws.{step_mixed}
@@ -28,7 +29,7 @@ use Rattle.zd_volume.proofs.FaultEntries.{faults_later}
 use Rattle.zd_volume.proofs.Images.{left_step}
 use Rattle.zd_volume.proofs.InPhases.{both_at, by_next, fixed_in, pointers_stay, safe_now}
 use Rattle.zd_volume.proofs.JobLaws.{copies_stay}
-use Rattle.zd_volume.proofs.Kept.{grows_write, kept_call, told_before}
+use Rattle.zd_volume.proofs.Kept.{kept_call, told_before}
 use Rattle.zd_volume.proofs.Reading.{read_step}
 
 -- which phase the write ends, and what it makes of each set
@@ -97,7 +98,7 @@ module _ (v : PlainVolume) (opening d e : View) (runs : v.stopped ≡ None) (was
         since = refl;
         stays = call.stays;
         calls = call.calls;
-        grows = grows_write d e z start bytes call;
+        grows = grows_by_write z start bytes call;
         from = told_before d e (Wrote z start bytes) turns;
       })
       (record {
@@ -133,7 +134,7 @@ module _ (v : PlainVolume) (opening d e : View) (runs : v.stopped ≡ None) (was
         since = refl;
         stays = call.stays;
         calls = call.calls;
-        grows = grows_write d e z start bytes call;
+        grows = grows_by_write z start bytes call;
         from = told_before d e (λ i. WriteStep i z start bytes i) turns;
       }) rose all legal
       (λ k r i c le known w t. safe_now v opening d was q k r c t le known.new_of (moved k r i c le known w))
