@@ -4,7 +4,7 @@ ghost use Rattle.std.specs.Prelude.{◌≡◌, None, OnOk, IfErr};
 ghost use Rattle.zd_base.specs.declared.numbers.Why.{Why};
 ghost use Rattle.zd_commit.specs.Closed.{Finishes, IsClosed, StopsClosing, StopsCommitting};
 ghost use Rattle.zd_commit.specs.Closed.{calls_to_close, calls_to_finish};
-ghost use Rattle.zd_disk.specs.View.{HasFailed, IsDurable, Made};
+ghost use Rattle.zd_disk.specs.View.{HasFailed, IsDurable, Made, Stays};
 ghost use Rattle.zd_state.specs.Seen.{SameSession};
 ghost use Rattle.zd_volume.specs.Abandons.{IsAbandoned};
 
@@ -32,6 +32,7 @@ fn finish<D: ZonedDisk>(v: &mut Volume<D>) -> Result<(), Why>
     ensures calls { OnOk result (Made (calls_to_finish v.old.plain.dirty v.old.plain.phase)
         (D.view v.old.disk) (D.view v.new.disk)) }
     ensures err { IfErr result (StopsCommitting v.old.plain v.new.plain) }
+    ensures stays { Stays (D.view v.old.disk) (D.view v.new.disk) }
     ensures same { SameSession 0 v.old v.new }
     ensures cause { IfErr result (λ why. why ≡ Why.Device → HasFailed (D.view v.old.disk) (D.view v.new.disk)) }
 {
@@ -54,6 +55,7 @@ pub fn close<D: ZonedDisk>(v: &mut Volume<D>) -> Result<(), Why>
     ensures calls { OnOk result (Made (calls_to_close v.old.plain.dirty v.old.plain.phase)
         (D.view v.old.disk) (D.view v.new.disk)) }
     ensures err { IfErr result (StopsClosing v.old.plain v.new.plain) }
+    ensures stays { Stays (D.view v.old.disk) (D.view v.new.disk) }
     ensures same { SameSession 0 v.old v.new }
     ensures cause { IfErr result (λ why. why ≡ Why.Device → HasFailed (D.view v.old.disk) (D.view v.new.disk)) }
 {
