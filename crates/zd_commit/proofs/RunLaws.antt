@@ -95,6 +95,7 @@ module _ (from : PlainVolume) (u : View) where
               let less = fewer_left mid to fixed step in
               omega (arith, n, l, less);
         }
+
     -- THE LAST ONE
     pub committed : EndsCommit mid to [] → IsCommitted from to
     committed ends = record {

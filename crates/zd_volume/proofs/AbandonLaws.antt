@@ -84,10 +84,10 @@ module _ (s : Sets) (pointers : List ℕ) where
       );
       free = λ y is_free. elim (cases_eq y z) [
         | inl same ↦ (
-            (λ n. bare.0 (subst (IsNamed (old_tables s)) same n)),
-            (λ n. bare.1 (subst (IsNamed (new_tables s)) same n)),
-            λ t. t,
-          )
+          (λ n. bare.0 (subst (IsNamed (old_tables s)) same n)),
+          (λ n. bare.1 (subst (IsNamed (new_tables s)) same n)),
+          λ t. t,
+        )
         | inr off ↦ (let none = was.free y (sym (others y off) ∙ is_free) in (none.0, none.1, λ t. t))
       ];
       limbo = λ y is_limbo. (let old = was.limbo y (before y Limbo (λ x. cc) is_limbo) in (old.0, old.1, λ t. t));

@@ -101,8 +101,8 @@ module _ (s : Sets) (are : AreSets s) (dirty : List Bool) (flags : AreFlags s di
 
   pub block_write : (in_place : Bool) (next : Option ℕ) → IsNextDirty dirty (k + 1) next
       → MetaWrite s (block_phase in_place k) (after_block in_place next)
-        (first_zone in_place (second s) + k / s.geometry.zone_blocks) (8 * (k % s.geometry.zone_blocks))
-        (blocks_of s.new k 1)
+      (first_zone in_place (second s) + k / s.geometry.zone_blocks) (8 * (k % s.geometry.zone_blocks))
+      (blocks_of s.new k 1)
   block_write false None is = record {
     zone = (let n = inside s are k low in omega arith);
     inside = in_zone;
@@ -168,7 +168,7 @@ eight s first sizes =
 pub super_write : (s : Sets) (are : AreSets s) (in_place : Bool)
     → HasBlock (head_at s.geometry (first_zone in_place (second s)) (next_head s.head))
     → MetaWrite s (super_phase in_place) (after_super in_place) (first_zone in_place (second s)) 0
-      (block_of (head_at s.geometry (first_zone in_place (second s)) (next_head s.head)))
+    (block_of (head_at s.geometry (first_zone in_place (second s)) (next_head s.head)))
 super_write s are false sizes = record {
   zone = (let n = inside s are 0 (omega arith) in omega arith);
   inside = (let n = eight s (second s) sizes in let least = are.shape.size.least in omega arith);

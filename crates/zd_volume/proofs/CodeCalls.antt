@@ -87,7 +87,7 @@ module _ (v : PlainVolume) (opening d e : View) (runs : v.stopped ≡ None) (was
 
     pub block_failed : (pieces : List Piece) → AreFlushes pieces → HasFailed d e
         → Turns (λ i. WriteStep i (first_zone in_place (second (sets_of v)) + k / v.geometry.zone_blocks)
-          (8 * (k % v.geometry.zone_blocks)) (blocks_of v.fresh k 1) i) d e
+        (8 * (k % v.geometry.zone_blocks)) (blocks_of v.fresh k 1) i) d e
         → IsKeptVolume (after_failed v pieces) opening e
     block_failed pieces all rose turns =
         kept_meta_failed v opening d e runs was (after_block in_place next)
@@ -110,7 +110,7 @@ module _ (v : PlainVolume) (opening d e : View) (runs : v.stopped ≡ None) (was
 
     pub super_failed : (pieces : List Piece) → AreFlushes pieces → HasFailed d e
         → Turns (λ i. WriteStep i (first_zone in_place (second (sets_of v))) 0
-          (block_of (head_at v.geometry (first_zone in_place (second (sets_of v))) (next_head v.head))) i) d e
+        (block_of (head_at v.geometry (first_zone in_place (second (sets_of v))) (next_head v.head))) i) d e
         → IsKeptVolume (after_failed v pieces) opening e
     super_failed pieces all rose turns =
         kept_meta_failed v opening d e runs was (after_super in_place) (first_zone in_place (second (sets_of v))) 0
@@ -135,7 +135,7 @@ module _ (v : PlainVolume) (opening d e : View) (runs : v.stopped ≡ None) (was
     pub end_made : (alone : Bool) → IsAtEnd v alone → (pieces : List Piece) → AreFlushes pieces
         → (clean named : List Bool) (division : Division) → EndsAs v clean named division → IsDurable e
         → IsKeptVolume (after_end v alone (flush_entries Done (next_count v.since) pieces) clean named division
-          (next_count v.since)) opening e
+        (next_count v.since)) opening e
     end_made alone at_end pieces all clean named division ends durable =
         kept_end v opening d was alone at_end (flush_entries Done (next_count v.since) pieces) clean named division ends
         (done_entries (next_count v.since) pieces all) e runs
@@ -225,7 +225,7 @@ module _ (v : PlainVolume) (opening d e : View) (runs : v.stopped ≡ None) (was
   pub due_made : (in_place : Bool) → IsBlockDue in_place v k
       → WritesBlock v (first_zone in_place (second (sets_of v))) k d e
       → Turns (WroteBlock (first_zone in_place (second (sets_of v)) + k / v.geometry.zone_blocks)
-        (k % v.geometry.zone_blocks) (blocks_of v.fresh k 1)) d e
+      (k % v.geometry.zone_blocks) (blocks_of v.fresh k 1)) d e
       → IsKeptVolume (after_call v (after_block in_place next) (next_count v.since) v.stopped) opening e
   due_made true due call turns = block_made v opening d e runs was true k next due is call turns
   due_made false (inl phase) call turns = block_made v opening d e runs was false k next phase is call turns
@@ -237,7 +237,7 @@ module _ (v : PlainVolume) (opening d e : View) (runs : v.stopped ≡ None) (was
       → WritesBlock v (first_zone in_place (second (sets_of v))) k d e
       → (pieces : List Piece) → AreFlushes pieces → HasFailed d e
       → Turns (λ i. WriteStep i (first_zone in_place (second (sets_of v)) + k / v.geometry.zone_blocks)
-        (8 * (k % v.geometry.zone_blocks)) (blocks_of v.fresh k 1) i) d e
+      (8 * (k % v.geometry.zone_blocks)) (blocks_of v.fresh k 1) i) d e
       → IsKeptVolume (after_failed v pieces) opening e
   due_failed true due call pieces all rose turns =
       block_failed v opening d e runs was true k next due is call pieces all rose turns

@@ -140,9 +140,9 @@ module _ (v : PlainVolume) (opening d : View) (was : IsKeptVolume v opening d) (
     where
       by_kind : (kind : JobKind)
           → HasTarget v.geometry (old_tables (sets_of v)) (new_tables (sets_of v)) kind
-            (entry_of (new_tables (sets_of v)) work.job.chunk) work.target
+          (entry_of (new_tables (sets_of v)) work.job.chunk) work.target
           → HasTarget v.geometry (new_tables (sets_of v)) (new_tables (sets_of v)) kind
-            (entry_of (new_tables (sets_of v)) work.job.chunk) work.target
+          (entry_of (new_tables (sets_of v)) work.job.chunk) work.target
       by_kind Empty t = t
       by_kind Move t = (t.0, t.1, t.2, t.3, t.5, t.5)
       by_kind Append t = t

@@ -57,8 +57,8 @@ module _ (v : PlainVolume) (opening d e : View) (runs : v.stopped ≡ None) (was
   pub block_meta : (in_place : Bool) (k : ℕ) (next : Option ℕ) → v.phase ≡ block_phase in_place k
       → IsNextDirty v.dirty (k + 1) next
       → MetaWrite (sets_of v) v.phase (after_block in_place next)
-        (first_zone in_place (second (sets_of v)) + k / v.geometry.zone_blocks) (8 * (k % v.geometry.zone_blocks))
-        (blocks_of v.fresh k 1)
+      (first_zone in_place (second (sets_of v)) + k / v.geometry.zone_blocks) (8 * (k % v.geometry.zone_blocks))
+      (blocks_of v.fresh k 1)
   block_meta in_place k next phase is =
       let at = is_block in_place k v.dirty v.head.generation
       (subst (λ (p : Phase). IsPhase p v.dirty v.head.generation) phase was.fixed.under_way) in
@@ -70,7 +70,7 @@ module _ (v : PlainVolume) (opening d e : View) (runs : v.stopped ≡ None) (was
   pub super_meta : (in_place : Bool) → v.phase ≡ super_phase in_place
       → HasBlock (head_at v.geometry (first_zone in_place (second (sets_of v))) (next_head v.head))
       → MetaWrite (sets_of v) v.phase (after_super in_place) (first_zone in_place (second (sets_of v))) 0
-        (block_of (head_at v.geometry (first_zone in_place (second (sets_of v))) (next_head v.head)))
+      (block_of (head_at v.geometry (first_zone in_place (second (sets_of v))) (next_head v.head)))
   super_meta in_place phase sizes =
       subst (λ (p : Phase). MetaWrite (sets_of v) p (after_super in_place)
       (first_zone in_place (second (sets_of v))) 0
@@ -81,11 +81,11 @@ module _ (v : PlainVolume) (opening d e : View) (runs : v.stopped ≡ None) (was
   pub kept_block : (in_place : Bool) (k : ℕ) (next : Option ℕ) → v.phase ≡ block_phase in_place k
       → IsNextDirty v.dirty (k + 1) next
       → Calls (λ r. WriteStep r (first_zone in_place (second (sets_of v)) + k / v.geometry.zone_blocks)
-        (8 * (k % v.geometry.zone_blocks)) (blocks_of v.fresh k 1))
-        (λ r j. WriteLeaves r j (first_zone in_place (second (sets_of v)) + k / v.geometry.zone_blocks)
-        (8 * (k % v.geometry.zone_blocks)) (blocks_of v.fresh k 1)) d e
+      (8 * (k % v.geometry.zone_blocks)) (blocks_of v.fresh k 1))
+      (λ r j. WriteLeaves r j (first_zone in_place (second (sets_of v)) + k / v.geometry.zone_blocks)
+      (8 * (k % v.geometry.zone_blocks)) (blocks_of v.fresh k 1)) d e
       → Turns (Wrote (first_zone in_place (second (sets_of v)) + k / v.geometry.zone_blocks)
-        (8 * (k % v.geometry.zone_blocks)) (blocks_of v.fresh k 1)) d e
+      (8 * (k % v.geometry.zone_blocks)) (blocks_of v.fresh k 1)) d e
       → IsKeptVolume (after_call v (after_block in_place next) (next_count v.since) v.stopped) opening e
   kept_block in_place k next phase is call turns =
       let at = is_block in_place k v.dirty v.head.generation
@@ -99,11 +99,11 @@ module _ (v : PlainVolume) (opening d e : View) (runs : v.stopped ≡ None) (was
   pub kept_super : (in_place : Bool) → v.phase ≡ super_phase in_place
       → HasBlock (head_at v.geometry (first_zone in_place (second (sets_of v))) (next_head v.head))
       → Calls (λ r. WriteStep r (first_zone in_place (second (sets_of v))) 0
-        (block_of (head_at v.geometry (first_zone in_place (second (sets_of v))) (next_head v.head))))
-        (λ r j. WriteLeaves r j (first_zone in_place (second (sets_of v))) 0
-        (block_of (head_at v.geometry (first_zone in_place (second (sets_of v))) (next_head v.head)))) d e
+      (block_of (head_at v.geometry (first_zone in_place (second (sets_of v))) (next_head v.head))))
+      (λ r j. WriteLeaves r j (first_zone in_place (second (sets_of v))) 0
+      (block_of (head_at v.geometry (first_zone in_place (second (sets_of v))) (next_head v.head)))) d e
       → Turns (Wrote (first_zone in_place (second (sets_of v))) 0
-        (block_of (head_at v.geometry (first_zone in_place (second (sets_of v))) (next_head v.head)))) d e
+      (block_of (head_at v.geometry (first_zone in_place (second (sets_of v))) (next_head v.head)))) d e
       → IsKeptVolume (after_call v (after_super in_place) (next_count v.since) v.stopped) opening e
   kept_super in_place phase sizes call turns =
       let at = is_super in_place v.dirty v.head.generation

@@ -134,14 +134,14 @@ module _ (v : PlainVolume) (opening now : View) (runs : v.stopped ≡ None) (was
 pub drops_by : (v : PlainVolume) (p : Piece) (middle bytes : List ℕ) (half marked : List Bool)
     (classes : List (Option JobClass)) → AreSets (sets_of v) → DiscardsBlocks (sets_of v) p.what
     → GivesBitsIn false v.geometry v.head.layout
-      (entry_of (new_tables (sets_of v)) (chunk_of v.geometry.zone_blocks p.what)).zone
-      (first_of v.geometry.zone_blocks p.what) (end_of v.geometry.zone_blocks p.what) v.fresh middle v.dirty half
+    (entry_of (new_tables (sets_of v)) (chunk_of v.geometry.zone_blocks p.what)).zone
+    (first_of v.geometry.zone_blocks p.what) (end_of v.geometry.zone_blocks p.what) v.fresh middle v.dirty half
     → GivesBitsIn false v.geometry v.head.layout
-      (entry_of (new_tables (sets_of v)) (chunk_of v.geometry.zone_blocks p.what)).buffer
-      (first_of v.geometry.zone_blocks p.what) (end_of v.geometry.zone_blocks p.what) middle bytes half marked
+    (entry_of (new_tables (sets_of v)) (chunk_of v.geometry.zone_blocks p.what)).buffer
+    (first_of v.geometry.zone_blocks p.what) (end_of v.geometry.zone_blocks p.what) middle bytes half marked
     → GivesClass (chunk_of v.geometry.zone_blocks p.what)
-      (class_in v.geometry v.pointers (tables_in v.geometry v.head.layout bytes)
-      (chunk_of v.geometry.zone_blocks p.what)) v.standings.classes classes
+    (class_in v.geometry v.pointers (tables_in v.geometry v.head.layout bytes)
+    (chunk_of v.geometry.zone_blocks p.what)) v.standings.classes classes
     → DropsRange v (after_drop v bytes marked classes (entry_for p answers.Done v.since)) p
 drops_by v p middle bytes half marked classes are is one two gives = record {
   range = range_cleared (sets_of v) are (chunk_of v.geometry.zone_blocks p.what)

@@ -107,7 +107,7 @@ module _ (s : Sets) (what : What) (is : DiscardsBlocks s what) where
   -- its sectors are those of its blocks of its chunk
   pub covers_within : (n : ℕ) → Covers what n
       → IsWithin s.geometry.zone_blocks (chunk_of s.geometry.zone_blocks what) (first_of s.geometry.zone_blocks what)
-        (end_of s.geometry.zone_blocks what) n
+      (end_of s.geometry.zone_blocks what) n
   covers_within n covers =
       let whole = whole_blocks what is.discards in
       let inside = is.inside in
@@ -123,7 +123,7 @@ module _ (s : Sets) (what : What) (is : DiscardsBlocks s what) where
 
   pub within_covers : (n : ℕ)
       → IsWithin s.geometry.zone_blocks (chunk_of s.geometry.zone_blocks what) (first_of s.geometry.zone_blocks what)
-        (end_of s.geometry.zone_blocks what) n
+      (end_of s.geometry.zone_blocks what) n
       → Covers what n
   within_covers n h =
       let whole = whole_blocks what is.discards in
@@ -135,7 +135,7 @@ module _ (s : Sets) (what : What) (is : DiscardsBlocks s what) where
   -- one that is outside isn't within
   pub outside_within : (n : ℕ) → IsOutside what n
       → IsWithin s.geometry.zone_blocks (chunk_of s.geometry.zone_blocks what) (first_of s.geometry.zone_blocks what)
-        (end_of s.geometry.zone_blocks what) n → ⊥
+      (end_of s.geometry.zone_blocks what) n → ⊥
   outside_within n off h =
       let c = within_covers n h in
       elim off [ inl before ↦ omega (arith, before, c.0) | inr behind ↦ omega (arith, behind, c.1) ]

@@ -102,7 +102,7 @@ module _ (s : Sets) (are : AreSets s) (chunk from end : ℕ) (bytes : List ℕ)
   -- THE CLASSES
   pub candidates_dropped : (pointers order : List ℕ) (standings : Standings) (classes : List (Option JobClass))
       → GivesClass chunk (class_in s.geometry pointers (tables_in s.geometry s.head.layout bytes) chunk)
-        standings.classes classes
+      standings.classes classes
       → AreCandidates s pointers order standings
       → AreCandidates (record s { new = bytes }) pointers order (record standings { classes = classes })
   candidates_dropped pointers order standings classes gives was = record {

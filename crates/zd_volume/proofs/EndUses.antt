@@ -126,7 +126,7 @@ module _ (s : Sets) (pointers : List ℕ) where
   target_is (Some w) z is target other = (
     w.job.chunk,
     target_named s.geometry (old_tables s) (new_tables s) w.job.kind (entry_of (new_tables s) w.job.chunk) w.target z
-    is.target target (λ kind. other (kind, target)),
+        is.target target (λ kind. other (kind, target)),
   )
 
   -- THE FLAGS MADE ANEW are those of the new tables

@@ -186,4 +186,3 @@ module _ (v : PlainVolume) (opening u x : View) (runs : v.stopped ≡ None) (io 
       (sym (ap (λ (b : Bool). cond b Range (reply_within (last_array (base_at opening.zones) v.history) p.what))
       (ap (λ (n : ℕ). ends_past n p.what) (length-last_array (base_at opening.zones) v.history) ∙ behind)))
       (omega arith, λ writes inside. absurd (let no : true ≡ false = sym behind ∙ inside in let f : ⊥ = cc in f)))
-

@@ -139,7 +139,7 @@ module _ (g : Shape) (head : Super) (bytes : List ℕ) where
       → FlagNamed g (tables_in g head.layout bytes) named → length pointers ≡ zone_count g
       → AreCandidates (same_sets g head bytes) pointers division.order standings → length buffer ≡ 4096 * 32
       → IsFixed (started g head bytes (replicate (used_blocks g head.layout) false) division named pointers standings
-        buffer)
+      buffer)
   fixed_start division named pointers standings buffer shape fits sizes rules size start flags count candidates room =
       record {
         sets = sets_start shape fits sizes rules size;

@@ -26,9 +26,9 @@ marks_then a b c d e f first second apart = record {
   size = second.size ∙ first.size;
   clean = λ k low. (
     (λ clean. (
-      let late = (second.clean k (let size = first.size in omega (arith, size, low))).0 clean in
-      let early = (first.clean k low).0 late.0 in
-      (early.0, late.1 ∙ early.1))),
+        let late = (second.clean k (let size = first.size in omega (arith, size, low))).0 clean in
+        let early = (first.clean k low).0 late.0 in
+        (early.0, late.1 ∙ early.1))),
     (λ both. (second.clean k (let size = first.size in omega (arith, size, low))).1 (elim (apart k low) [
       | inl same ↦ ((first.clean k low).1 (both.0, same), both.1 ∙ sym same)
       | inr same ↦ ((first.clean k low).1 (both.0, sym same ∙ both.1), same)
@@ -97,8 +97,8 @@ module _ (bit : Bool) (g : Shape) (l : Layout) (shape : IsShape g) (zone first e
         × (blocks_of new (bits_block g l zone + k) 1 ≡ blocks_of old (bits_block g l zone + k) 1))
     part_clean k b is differs same = (
       (λ clean. (
-        let both = or_clean b (get_or dirty (bits_block g l zone + k) true) (sym is ∙ clean) in
-        (both.1, same both.0))),
+          let both = or_clean b (get_or dirty (bits_block g l zone + k) true) (sym is ∙ clean) in
+          (both.1, same both.0))),
       (λ both. is ∙ elim (cases_Bool b) [
         | inl changes ↦ absurd (part_differs k (differs changes) both.1)
         | inr stays ↦ clean_or b (get_or dirty (bits_block g l zone + k) true) stays both.0
