@@ -14,7 +14,8 @@ use Rattle.zd_tables.specs.Rules.{FollowRules}
 use Rattle.zd_tables.specs.Tables.{tables_in}
 use Rattle.zd_tables.specs.declared.part.ChangedParts.{ChangedParts}
 use Rattle.zd_tables.proofs.ZoneParts.{one_or_two}
-use Rattle.zd_volume.specs.Discards.{DiscardsBlocks, DropsRange, after_drop, chunk_of, end_of, entry_for, first_of}
+use Rattle.zd_volume.specs.Discards.{DiscardsBlocks, DropsRange, after_drop, chunk_touched, end_of, first_of}
+use Rattle.zd_volume.specs.Flights.{answered}
 use Rattle.zd_volume.specs.Jobs.{class_in}
 use Rattle.zd_volume.specs.Marks.{GivesBitsIn, MarksParts}
 use Rattle.zd_volume.specs.Sets.{new_tables}
@@ -42,7 +43,7 @@ gives_in g l o z first end is old new dirty marked changed bits tells marks =
 
 -- THE STEPS OF A DISCARD: the chunk's zone, its buffer, its class, the entry
 module _ (v : PlainVolume) (fixed : IsFixed v) (p : Piece) (is : DiscardsBlocks (sets_of v) p.what)
-    (chunk first count : ℕ) (at : chunk ≡ chunk_of v.geometry.zone_blocks p.what)
+    (chunk first count : ℕ) (at : chunk ≡ chunk_touched v.geometry.zone_blocks p.what)
     (from : first ≡ first_of v.geometry.zone_blocks p.what) (many : count ≡ block_count p.what)
     (e : MapEntry) (names : e ≡ entry_of (new_tables (sets_of v)) chunk)
     (m : PlainVolume) (half : m ≡ record v { fresh = m.fresh; dirty = m.dirty })
@@ -51,7 +52,7 @@ module _ (v : PlainVolume) (fixed : IsFixed v) (p : Piece) (is : DiscardsBlocks 
     (two : GivesBitsIn false m.geometry m.head.layout e.buffer first (first + count) m.fresh n.fresh m.dirty
     n.dirty) where
   abbrev entry : MapEntry
-  entry = entry_of (new_tables (sets_of v)) (chunk_of v.geometry.zone_blocks p.what)
+  entry = entry_of (new_tables (sets_of v)) (chunk_touched v.geometry.zone_blocks p.what)
 
   entry_is : e ≡ entry
   entry_is = rw at at names
@@ -74,9 +75,9 @@ module _ (v : PlainVolume) (fixed : IsFixed v) (p : Piece) (is : DiscardsBlocks 
   pub rules_dropped : FollowRules n.geometry n.head.layout n.fresh
   rules_dropped =
       subst (λ (w : PlainVolume). FollowRules w.geometry w.head.layout n.fresh) (sym both)
-      (sets_dropped (sets_of v) fixed.sets (chunk_of v.geometry.zone_blocks p.what)
+      (sets_dropped (sets_of v) fixed.sets (chunk_touched v.geometry.zone_blocks p.what)
       (first_of v.geometry.zone_blocks p.what) (end_of v.geometry.zone_blocks p.what) n.fresh
-      (range_cleared (sets_of v) fixed.sets (chunk_of v.geometry.zone_blocks p.what)
+      (range_cleared (sets_of v) fixed.sets (chunk_touched v.geometry.zone_blocks p.what)
       (first_of v.geometry.zone_blocks p.what) (end_of v.geometry.zone_blocks p.what) is.inside m.fresh n.fresh v.dirty
       m.dirty n.dirty of_zone of_buffer)).new_rules
 
@@ -84,7 +85,7 @@ module _ (v : PlainVolume) (fixed : IsFixed v) (p : Piece) (is : DiscardsBlocks 
       → o ≡ record n { standings = record n.standings { classes = o.standings.classes } }
       → GivesClass chunk (class_in n.geometry n.pointers (tables_in n.geometry n.head.layout n.fresh) chunk)
       n.standings.classes o.standings.classes
-      → (q : PlainVolume) → q ≡ record o { history = o.history ++ entry_for p answers.Done o.since ∷ [] }
+      → (q : PlainVolume) → q ≡ record o { history = o.history ++ answered p answers.Done o.since ∷ [] }
       → DropsRange v q p
   drops_in_steps o classed gives q entered =
       subst (λ (w : PlainVolume). DropsRange v w p) (sym all)
@@ -92,10 +93,10 @@ module _ (v : PlainVolume) (fixed : IsFixed v) (p : Piece) (is : DiscardsBlocks 
       (rw at at (subst (λ (w : PlainVolume). GivesClass chunk (class_in w.geometry w.pointers
       (tables_in w.geometry w.head.layout n.fresh) chunk) w.standings.classes o.standings.classes) both gives)))
     where
-      all : q ≡ after_drop v n.fresh n.dirty o.standings.classes (entry_for p answers.Done v.since)
+      all : q ≡ after_drop v n.fresh n.dirty o.standings.classes (answered p answers.Done v.since)
       all =
           entered
-          ∙ ap (λ (w : PlainVolume). record w { history = w.history ++ entry_for p answers.Done w.since ∷ [] })
+          ∙ ap (λ (w : PlainVolume). record w { history = w.history ++ answered p answers.Done w.since ∷ [] })
           (classed
           ∙ ap (λ (w : PlainVolume). record w { standings = record w.standings { classes = o.standings.classes } })
           both)

@@ -10,7 +10,8 @@ ghost use Rattle.zd_state.specs.Seen.{SameSession};
 ghost use Rattle.zd_tables.specs.Changes.{bits_block};
 ghost use Rattle.zd_tables.specs.Rules.{FollowRules};
 ghost use Rattle.zd_tables.specs.Tables.{tables_in};
-ghost use Rattle.zd_volume.specs.Discards.{DiscardsBlocks, DropsRange, NoJobOn, chunk_of, entry_for};
+ghost use Rattle.zd_volume.specs.Discards.{DiscardsBlocks, DropsRange, NoJobOn, chunk_touched};
+ghost use Rattle.zd_volume.specs.Flights.{answered};
 ghost use Rattle.zd_volume.specs.Jobs.{class_in};
 ghost use Rattle.zd_volume.specs.Marks.{GivesBitsIn, MarksParts};
 ghost use Rattle.zd_volume.specs.Sets.{used};
@@ -98,7 +99,7 @@ impl VolumeState {
     fn enter_done(&mut self, piece: &Piece)
         requires spare { 0 < self.old.spare }
         ensures plain { self.new.plain ≡ record self.old.plain {
-          history = self.old.plain.history ++ entry_for piece.now answers.Done self.old.plain.since ∷ [];
+          history = self.old.plain.history ++ answered piece.now answers.Done self.old.plain.since ∷ [];
         } }
         ensures spare { self.old.spare ≤ self.new.spare + 1 }
         ensures room { self.new.room ≡ self.old.room }
@@ -145,7 +146,7 @@ impl<D: ZonedDisk> Volume<D> {
         requires idle { self.old.plain.phase ≡ Idle }
         requires piece { DiscardsBlocks (sets_of self.old.plain) piece.now.what }
         requires job { NoJobOn self.old.plain.job
-            (chunk_of self.old.plain.geometry.zone_blocks piece.now.what) }
+            (chunk_touched self.old.plain.geometry.zone_blocks piece.now.what) }
         requires spare { 0 < self.old.spare }
         ensures dropped { DropsRange self.old.plain self.new.plain piece.now }
         ensures disk { self.new.disk ≡ self.old.disk }

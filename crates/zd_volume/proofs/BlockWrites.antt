@@ -82,7 +82,8 @@ module _ (s : Sets) (are : AreSets s) (dirty : List Bool) (flags : AreFlags s di
   clean_upto (Some m) is =
       (is.1, (let size = flags.size in let h = is.0 in omega (arith, size, h)), λ j a b. is.2 j a b)
 
-  module _ (first : ℕ) (set : IsConventionalSet s.geometry first (used s)) (i c : Image) (of : IsImageOf s.geometry i) where
+  module _ (first : ℕ) (set : IsConventionalSet s.geometry first (used s)) (i c : Image)
+      (of : IsImageOf s.geometry i) where
     part : (head : Super)
         → WrotePart (first + k / s.geometry.zone_blocks) (8 * (k % s.geometry.zone_blocks)) (blocks_of s.new k 1) i c
         → IsBetween s.geometry first (used s) head s.old s.new i

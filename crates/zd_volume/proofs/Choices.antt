@@ -33,23 +33,38 @@ module _ (s : Sets) (are : AreSets s) where
 
   -- THE CHOICE, the one case by case look at the nine phases
   module _ (i : Image) (geometry : i.geometry ≡ s.geometry) where
-    old_first : HasSet s.geometry 0 (used s) s.head s.old i → (HasSet s.geometry (second s) (used s) s.head s.old i → ChoosesBlocks s.geometry s.head.layout s.old i)
-    old_first a b = first_chooses s.geometry i geometry s.head.layout s.old are.fits are.old_size s.head s.head refl (omega arith) a b.super
+    old_first : HasSet s.geometry 0 (used s) s.head s.old i
+        → (HasSet s.geometry (second s) (used s) s.head s.old i → ChoosesBlocks s.geometry s.head.layout s.old i)
+    old_first a b =
+        first_chooses s.geometry i geometry s.head.layout s.old are.fits are.old_size s.head s.head refl
+        (omega arith) a b.super
 
     -- set 0 has the committed head, and set 1 no newer one
-    by_first : HasSet s.geometry 0 (used s) s.head s.old i → good_super i (second s) ≡ Some (head_at s.geometry (second s) s.head)
+    by_first : HasSet s.geometry 0 (used s) s.head s.old i
+        → good_super i (second s) ≡ Some (head_at s.geometry (second s) s.head)
         → ChoosesBlocks s.geometry s.head.layout s.old i
-    by_first a good = first_chooses s.geometry i geometry s.head.layout s.old are.fits are.old_size s.head s.head refl (omega arith) a good
+    by_first a good =
+        first_chooses s.geometry i geometry s.head.layout s.old are.fits are.old_size s.head s.head refl
+        (omega arith) a good
 
     by_second : good_super i 0 ≡ Some (head_at s.geometry 0 s.head)
-        → HasSet s.geometry (second s) (used s) (next_head s.head) s.new i → ChoosesBlocks s.geometry s.head.layout s.new i
-    by_second good b = second_chooses s.geometry i geometry s.head.layout s.new are.fits are.new_size (next_head s.head) s.head refl refl (omega arith) b good
+        → HasSet s.geometry (second s) (used s) (next_head s.head) s.new i
+        → ChoosesBlocks s.geometry s.head.layout s.new i
+    by_second good b =
+        second_chooses s.geometry i geometry s.head.layout s.new are.fits are.new_size
+        (next_head s.head) s.head refl refl (omega arith) b good
 
-    by_both : HasSet s.geometry 0 (used s) (next_head s.head) s.new i → HasSet s.geometry (second s) (used s) (next_head s.head) s.new i → ChoosesBlocks s.geometry s.head.layout s.new i
-    by_both a b = first_chooses s.geometry i geometry s.head.layout s.new are.fits are.new_size (next_head s.head) (next_head s.head) refl (omega arith) a b.super
+    by_both : HasSet s.geometry 0 (used s) (next_head s.head) s.new i
+        → HasSet s.geometry (second s) (used s) (next_head s.head) s.new i
+        → ChoosesBlocks s.geometry s.head.layout s.new i
+    by_both a b =
+        first_chooses s.geometry i geometry s.head.layout s.new are.fits are.new_size (next_head s.head)
+        (next_head s.head) refl (omega arith) a b.super
 
-    pub choice : (p : Phase) → InStage (first_stage p) s.geometry 0 (used s) s.head s.old s.new i → InStage (second_stage p) s.geometry (second s) (used s) s.head s.old s.new i
-        → (TakesOld p × ChoosesBlocks s.geometry s.head.layout s.old i) ⊎ (TakesNew p × ChoosesBlocks s.geometry s.head.layout s.new i)
+    pub choice : (p : Phase) → InStage (first_stage p) s.geometry 0 (used s) s.head s.old s.new i
+        → InStage (second_stage p) s.geometry (second s) (used s) s.head s.old s.new i
+        → (TakesOld p × ChoosesBlocks s.geometry s.head.layout s.old i)
+        ⊎ (TakesNew p × ChoosesBlocks s.geometry s.head.layout s.new i)
     choice Idle a b = inl (tt, by_first a b.super)
     choice (Log k) a b = inl (tt, by_first a b.super)
     choice LogFlush a b = inl (tt, by_first a b.super)
@@ -64,20 +79,26 @@ module _ (s : Sets) (are : AreSets s) where
 
   -- what leaves the sets, and what leaves the data
   module _ (i c : Image) (of : IsImageOf s.geometry i) where
-    pub sets_apart : (z : ℕ) → first_data_zone s.geometry s.head.layout ≤ z → c.geometry ≡ i.geometry → ((y : ℕ) → y ≢ z → SameZone i c y) → BothStay s i c
+    pub sets_apart : (z : ℕ) → first_data_zone s.geometry s.head.layout ≤ z → c.geometry ≡ i.geometry
+        → ((y : ℕ) → y ≢ z → SameZone i c y) → BothStay s i c
     sets_apart z far geometry others = record {
-      first = zones_stay s.geometry 0 (used s) first_set i c of geometry (λ k low. (let n = inside k low in others (0 + k / s.geometry.zone_blocks) (omega arith)));
-      second = zones_stay s.geometry (second s) (used s) second_set i c of geometry (λ k low. (let n = inside k low in others (second s + k / s.geometry.zone_blocks) (omega arith)));
+      first = zones_stay s.geometry 0 (used s) first_set i c of geometry
+          (λ k low. (let n = inside k low in others (0 + k / s.geometry.zone_blocks) (omega arith)));
+      second = zones_stay s.geometry (second s) (used s) second_set i c of geometry
+          (λ k low. (let n = inside k low in others (second s + k / s.geometry.zone_blocks) (omega arith)));
     }
 
     pub sets_same : Same i c → BothStay s i c
     sets_same same = record {
-      first = zones_stay s.geometry 0 (used s) first_set i c of same.geometry (λ k low. same.zones (0 + k / s.geometry.zone_blocks));
-      second = zones_stay s.geometry (second s) (used s) second_set i c of same.geometry (λ k low. same.zones (second s + k / s.geometry.zone_blocks));
+      first = zones_stay s.geometry 0 (used s) first_set i c of same.geometry
+          (λ k low. same.zones (0 + k / s.geometry.zone_blocks));
+      second = zones_stay s.geometry (second s) (used s) second_set i c of same.geometry
+          (λ k low. same.zones (second s + k / s.geometry.zone_blocks));
     }
 
   pub data_same : (i c : Image) → Same i c → DataStays s i c
   data_same i c same = record { zones = λ y far. same.zones y }
 
-  pub data_others : (i c : Image) (z : ℕ) → z < first_data_zone s.geometry s.head.layout → ((y : ℕ) → y ≢ z → SameZone i c y) → DataStays s i c
+  pub data_others : (i c : Image) (z : ℕ) → z < first_data_zone s.geometry s.head.layout
+      → ((y : ℕ) → y ≢ z → SameZone i c y) → DataStays s i c
   data_others i c z low others = record { zones = λ y far. others y (omega arith) }

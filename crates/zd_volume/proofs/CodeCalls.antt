@@ -1,5 +1,5 @@
 -- The calls of a commit as code makes them: what it keeps, and that it is a step of a commit.
-use Rattle.std.proofs.Common.{◌≡◌, ◌⊎◌, ℕ, ◌+◌, ◌-◌, ◌*◌, ◌/◌, ◌%◌, ◌^◌, ◌<◌, ◌≤◌, Bool, true, false, List, length, replicate, get_or, ◌∙◌, Option, Some, None, inl, inr, refl, sym, subst, arith}
+use Rattle.std.proofs.Common.{◌≡◌, ◌⊎◌, ℕ, ◌+◌, ◌-◌, ◌*◌, ◌/◌, ◌%◌, ◌^◌, ◌<◌, ◌≤◌, Bool, true, false, List, length, replicate, ◌∙◌, Option, Some, None, inl, inr, refl, sym, subst, arith}
 use Rattle.std.proofs.Math.Nat.{mul-le-mul_right}
 use Rattle.std.proofs.lemmas.Bool.{cases_eq}
 use Rattle.std.proofs.lemmas.List.{get_or-replicate, length-replicate}
@@ -36,12 +36,13 @@ use Rattle.zd_volume.proofs.CallsLeft.{dirty_more, dirty_next, none_dirty}
 use Rattle.zd_volume.proofs.CommitSteps.{block_meta, is_super, kept_block, kept_flush, kept_super, super_meta}
 use Rattle.zd_volume.proofs.EndUses.{ended_sets, flags_named, job_ended, used_ended}
 use Rattle.zd_volume.proofs.Flushes.{kept_flush_failed}
-use Rattle.zd_volume.proofs.InPhases.{by_next, next_more}
+use Rattle.zd_volume.proofs.InPhases.{next_more}
 use Rattle.zd_volume.proofs.LegalEntries.{done_entries, failed_entries, legal_flushes_done, legal_flushes_failed}
 use Rattle.zd_volume.proofs.MetaWrites.{kept_meta_failed}
 
 -- a block that was written is a write
-turns_wrote : (z k : ℕ) (bytes : List ℕ) (d e : View) → Turns (WroteBlock z k bytes) d e → Turns (Wrote z (8 * k) bytes) d e
+turns_wrote : (z k : ℕ) (bytes : List ℕ) (d e : View) → Turns (WroteBlock z k bytes) d e
+    → Turns (Wrote z (8 * k) bytes) d e
 turns_wrote z k bytes d e turns = record {
   reads = Both-by d.zones e.zones (WroteBlock z k bytes) (Wrote z (8 * k) bytes) (λ i j _ _ w. w.wrote) turns.reads;
 }
@@ -184,7 +185,8 @@ ends_as v fixed named division limbo flags = record {
 }
   where
     uses : AreUsed (ended_sets v.head.generation (sets_of v)) v.job division
-    uses = used_ended (sets_of v) v.head.generation v.job v.division division limbo.zones limbo.conv limbo.order fixed.uses
+    uses = used_ended (sets_of v) v.head.generation v.job v.division division limbo.zones limbo.conv limbo.order
+        fixed.uses
 
 -- A BLOCK THAT IS DUE, in its phase or as the first of a commit
 pub due_block : (v : PlainVolume) (in_place : Bool) (k : ℕ) → IsFixed v → IsBlockDue in_place v k
@@ -245,7 +247,8 @@ module _ (v : PlainVolume) (opening d e : View) (runs : v.stopped ≡ None) (was
       block_failed v opening d e runs was false k next phase is call pieces all rose turns
   due_failed false (inr begins) call pieces all rose turns =
       kept_unphased (after_failed (record v { phase = Log k }) pieces) v.phase Why.Device opening e begins.0 refl
-      (block_failed (record v { phase = Log k }) opening d e runs (begun begins.1 begins.0 begins.2) false k next refl is
+      (block_failed (record v { phase = Log k }) opening d e runs
+      (begun begins.1 begins.0 begins.2) false k next refl is
       call pieces all rose turns)
 
 -- WHICH CALL a step made: only at the last generation none
@@ -256,7 +259,8 @@ phase_call v w pieces Committed.More d e small step call = call
 phase_call v w pieces Committed.Ended d e small step call = call
 phase_call v w pieces (Committed.Stopped Why.Device) d e small step call = call
 phase_call v w pieces (Committed.Stopped Why.Memory) d e small step call = call
-phase_call v w pieces (Committed.Stopped Why.Generation) d e (inl small) step call = absurd (omega (arith, small, step.2))
+phase_call v w pieces (Committed.Stopped Why.Generation) d e (inl small) step call =
+    absurd (omega (arith, small, step.2))
 phase_call v w pieces (Committed.Stopped Why.Generation) d e (inr none) step call = absurd (omega (arith, none, step.1))
 
 pub due_call : (v : PlainVolume) (in_place : Bool) (k : ℕ) (d e : View) → IsBlockDue in_place v k
@@ -271,7 +275,8 @@ pub alone_call : (v : PlainVolume) (d e : View) → v.phase ≡ Idle → dirty_f
 alone_call v d e idle none call = subst (λ (p : Phase). MakesPhaseCall p v d e) (sym idle) (inl (none, call))
 
 -- there is a next generation
-pub generation_left : (v : PlainVolume) → IsFixed v → (v.head.generation ≡ 2 ^ 64 - 1 → ⊥) → v.head.generation < 2 ^ 64 - 1
+pub generation_left : (v : PlainVolume) → IsFixed v → (v.head.generation ≡ 2 ^ 64 - 1 → ⊥)
+    → v.head.generation < 2 ^ 64 - 1
 generation_left v fixed other =
     let low = fixed.sets.sizes.generation in
     elim (cases_eq v.head.generation (2 ^ 64 - 1)) [

@@ -1,14 +1,13 @@
 -- The flush that ends a commit: the new tables are the committed ones.
-use Rattle.std.proofs.Common.{◌≡◌, ℕ, ◌+◌, ◌-◌, ◌^◌, ◌<◌, ◌≤◌, Bool, true, false, List, [], ◌∷◌, ◌++◌, length, slice_index_or, get_or, Option, Some, None, refl, ap, sym, ◌∙◌, subst, arith}
+use Rattle.std.proofs.Common.{◌≡◌, ℕ, ◌+◌, ◌-◌, ◌^◌, ◌<◌, ◌≤◌, Bool, true, false, List, [], ◌∷◌, ◌++◌, length, slice_index_or, Option, Some, None, refl, ap, sym, ◌∙◌, subst, arith}
 use Rattle.std.specs.List.{AllByRecursion}
 use Rattle.zd_alloc.specs.Zones.{Division}
 use Rattle.zd_model.specs.Bytes.{zero_sector}
 use Rattle.zd_model.specs.History.{HistoryEntry, IsLegal}
 use Rattle.zd_model.specs.Image.{Image, Same}
-use Rattle.zd_model.specs.Safe.{IsSafe, base_at, last_at}
+use Rattle.zd_model.specs.Safe.{base_at, last_at}
 use Rattle.zd_model.specs.Stops.{AreBy, IsFlushAt, MayHold}
 use Rattle.zd_model.specs.Super.{HasBlock}
-use Rattle.zd_model.specs.Tables.{entry_of}
 use Rattle.zd_model.proofs.HeldLaws.{AreBy-append}
 use Rattle.zd_model.proofs.LastLaws.{flushes_reset, last_may, lasts_stay, pasts}
 use Rattle.zd_model.proofs.SafeHistory.{safe_more}
@@ -17,17 +16,16 @@ use Rattle.zd_disk.specs.View.{Calls, IsDurable, Turns, View}
 use Rattle.zd_sets.specs.Stages.{HasSet, next_head}
 use Rattle.zd_sets.proofs.StageLaws.{all_written}
 use Rattle.zd_volume.specs.Commits.{after_end}
-use Rattle.zd_volume.specs.Jobs.{HasCopies, HasTarget, IsJobOrNone}
+use Rattle.zd_volume.specs.Jobs.{HasCopies}
 use Rattle.zd_volume.specs.LeftImages.{MayBeLeft, ReadsAs}
 use Rattle.zd_volume.specs.Phases.{end_generation, end_phase, IsNextDirty, with_generation}
-use Rattle.zd_volume.specs.Sets.{AreSets, Sets, new_tables, old_tables, second, used}
+use Rattle.zd_volume.specs.Sets.{AreSets, new_tables, second, used}
 use Rattle.zd_volume.specs.Uses.{AreCandidates, AreUsed, FlagNamed, IsPhase}
 use Rattle.zd_volume.specs.Volumes.{IsKeptVolume, PlainVolume, sets_of}
 use Rattle.zd_volume.specs.declared.phase.Phase.{Phase}
 use Rattle.zd_volume.specs.declared.phase.Phase.TheVariants.{Idle}
-use Rattle.zd_volume.specs.declared.work.JobKind.{JobKind}
-use Rattle.zd_volume.specs.declared.work.JobKind.TheVariants.{Empty, Move, Append, Merge}
 use Rattle.zd_volume.specs.declared.work.Work.{Work}
+use Rattle.zd_volume.proofs.EndUses.{job_ended}
 use Rattle.zd_volume.proofs.FaultEntries.{calm_more, done_none, faults_later, faults_none, none_calm}
 use Rattle.zd_volume.proofs.FlushPhases.{none_left, onward}
 use Rattle.zd_volume.proofs.Flushes.{left_is_read}
@@ -126,28 +124,6 @@ module _ (v : PlainVolume) (opening d : View) (was : IsKeptVolume v opening d) (
   risen true one g = omega (arith, one, g)
   risen false one g = omega (arith, one, g)
 
-  jobs : (job : Option Work) → IsJobOrNone (sets_of v) v.pointers job → IsJobOrNone (sets_of w) v.pointers job
-  jobs None all = tt
-  jobs (Some work) all = record {
-    chunk = all.chunk;
-    entry = all.entry;
-    target = by_kind work.job.kind all.target;
-    inside = all.inside;
-    few = all.few;
-    run = all.run;
-    pointer = all.pointer;
-  }
-    where
-      by_kind : (kind : JobKind)
-          → HasTarget v.geometry (old_tables (sets_of v)) (new_tables (sets_of v)) kind
-          (entry_of (new_tables (sets_of v)) work.job.chunk) work.target
-          → HasTarget v.geometry (new_tables (sets_of v)) (new_tables (sets_of v)) kind
-          (entry_of (new_tables (sets_of v)) work.job.chunk) work.target
-      by_kind Empty t = t
-      by_kind Move t = (t.0, t.1, t.2, t.3, t.5, t.5)
-      by_kind Append t = t
-      by_kind Merge t = t
-
   -- the history with the flushes
   all_by : (es : List HistoryEntry) → AllByRecursion (IsFlushAt (next_count v.since)) es → AreBy (next_count v.since) es
   all_by [] all = tt
@@ -177,12 +153,14 @@ module _ (v : PlainVolume) (opening d : View) (was : IsKeptVolume v opening d) (
   }
 
   -- the sets as the last flush leaves them
-  as_end : {c : Image} → ReadsAs v.phase (sets_of v) base v.history c → ReadsAs (end_phase alone) (sets_of v) base v.history c
+  as_end : {c : Image} → ReadsAs v.phase (sets_of v) base v.history c
+      → ReadsAs (end_phase alone) (sets_of v) base v.history c
   as_end {c} r = subst (λ (p : Phase). ReadsAs p (sets_of v) base v.history c) at_end.phase r
 
   abbrev HasNewSet : Bool → ℕ → Image → Type 0
   HasNewSet alone first c =
-      HasSet v.geometry first (used (sets_of v)) (with_generation (end_generation alone v.head.generation) v.head) v.fresh c
+      HasSet v.geometry first (used (sets_of v))
+      (with_generation (end_generation alone v.head.generation) v.head) v.fresh c
 
   sets : (alone : Bool) → (alone ≡ true → IsNextDirty v.dirty 1 None) → (c : Image)
       → ReadsAs (end_phase alone) (sets_of v) base v.history c
@@ -194,10 +172,11 @@ module _ (v : PlainVolume) (opening d : View) (was : IsKeptVolume v opening d) (
   sets true none c read =
       let clean_all = none_left (sets_of v) are v.dirty was.fixed.flags (none refl) in (
         all_written v.geometry 0 (used (sets_of v)) v.head v.committed v.fresh c
-            (onward (sets_of v) are v.dirty was.fixed.flags 0 v.head (used (sets_of v)) c (omega arith) clean_all read.first),
+            (onward (sets_of v) are v.dirty was.fixed.flags 0 v.head (used (sets_of v)) c
+            (omega arith) clean_all read.first),
         all_written v.geometry (second (sets_of v)) (used (sets_of v)) v.head v.committed v.fresh c
-            (onward (sets_of v) are v.dirty was.fixed.flags (second (sets_of v)) v.head (used (sets_of v)) c (omega arith)
-            clean_all read.second),
+            (onward (sets_of v) are v.dirty was.fixed.flags (second (sets_of v)) v.head (used (sets_of v)) c
+            (omega arith) clean_all read.second),
       )
 
   left : (c : Image) → ReadsAs v.phase (sets_of v) base v.history c
@@ -209,7 +188,8 @@ module _ (v : PlainVolume) (opening d : View) (was : IsKeptVolume v opening d) (
         first = st.0;
         second = st.1;
         by_old = λ _ n l.
-            subst (λ (x : List ℕ). MayHold base (v.history ++ entries) (next_count v.since) n x) (sym (is.served n l)) (may n);
+            subst (λ (x : List ℕ). MayHold base (v.history ++ entries) (next_count v.since) n x) (sym (is.served n l))
+            (may n);
         below_old = λ _. is.below;
         below_new = λ t. absurd t;
         by_new = λ t. absurd t;
@@ -261,12 +241,13 @@ module _ (v : PlainVolume) (opening d : View) (was : IsKeptVolume v opening d) (
           named = record { size = ends.names.size; each = ends.names.each };
           pointers = was.fixed.pointers;
           candidates = candidates;
-          job = jobs v.job was.fixed.job;
+          job = job_ended (sets_of v) (end_generation alone v.head.generation) v.pointers v.job was.fixed.job;
           room = was.fixed.room;
         };
         by_now = AreBy-append (next_count v.since) v.history entries (by_next v opening d was) (all_by entries flushes);
         generation = λ one g. risen alone one g;
-        faulted = faults_none v.history entries (done_none (next_count v.since) entries flushes) v.stopped opening.faults
+        faulted = faults_none v.history entries (done_none (next_count v.since) entries flushes) v.stopped
+            opening.faults
             e.faults (faults_later v.history v.stopped opening.faults d.faults e.faults was.faulted call.stays.later);
         calm = λ still. calm_more v.history entries (was.calm still)
             (none_calm entries (done_none (next_count v.since) entries flushes));
@@ -285,7 +266,8 @@ module _ (v : PlainVolume) (opening d : View) (was : IsKeptVolume v opening d) (
             (safe_now v opening d was v.phase v.since r c t (omega arith) known.new_of
             (left_same v opening d was i c v.since (omega arith) known.left_of s known.left_is));
         after = λ r i c one known s t small l.
-            safe_of (sets_of w) Idle base (v.history ++ entries) (next_count v.since) c are_sets known.new_of (was.based r t)
+            safe_of (sets_of w) Idle base (v.history ++ entries) (next_count v.since) c are_sets known.new_of
+            (was.based r t)
             (λ x. absurd x)
             (left c (read_same v opening d was r c known.reads_of
             (left_is_read v opening d e runs was turns call durable r c t small l) known.reads).read);

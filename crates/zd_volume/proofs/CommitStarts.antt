@@ -1,13 +1,12 @@
 -- A commit begins, or cannot: steps without a call.
-use Rattle.std.proofs.Common.{◌≡◌, ℕ, ◌+◌, ◌-◌, ◌^◌, ◌<◌, ◌≤◌, List, Option, Some, None, refl, sym, ◌∙◌, subst, arith}
+use Rattle.std.proofs.Common.{◌≡◌, ℕ, ◌-◌, ◌^◌, ◌<◌, Some, None, refl, sym, ◌∙◌, subst, arith}
 use Rattle.zd_base.specs.declared.numbers.Why.{Why}
 use Rattle.zd_model.specs.Safe.{base_at}
 use Rattle.zd_disk.specs.View.{View}
 use Rattle.zd_sets.proofs.StageLaws.{before_mixed}
-use Rattle.zd_volume.specs.FaultCounts.{CountsFaults}
 use Rattle.zd_volume.specs.LeftImages.{MayBeLeft, ReadsAs}
 use Rattle.zd_volume.specs.Phases.{IsNextDirty}
-use Rattle.zd_volume.specs.Sets.{Sets, second, used}
+use Rattle.zd_volume.specs.Sets.{second, used}
 use Rattle.zd_volume.specs.Uses.{IsPhase}
 use Rattle.zd_volume.specs.Volumes.{IsKeptVolume, PlainVolume, sets_of}
 use Rattle.zd_volume.specs.declared.phase.Phase.{Phase}
@@ -58,7 +57,8 @@ kept_begin v m opening d was idle is small =
           subst (λ (p : Phase). MayBeLeft p (sets_of v) (base_at opening.zones) v.history v.since c) idle may in
           record {
             first = f.first;
-            second = before_mixed v.geometry (second (sets_of v)) (used (sets_of v)) v.head v.committed v.fresh c f.second;
+            second = before_mixed v.geometry (second (sets_of v))
+                (used (sets_of v)) v.head v.committed v.fresh c f.second;
             by_old = f.by_old;
             below_old = f.below_old;
             below_new = λ t. absurd t;
@@ -100,6 +100,7 @@ kept_stopped v opening d was = record {
   reads = λ x. absurd (let f : ⊥ = cc in f);
   stops = λ x. absurd (let f : ⊥ = cc in f);
   safe = was.safe;
+  earlier = was.earlier;
 }
 
 -- the phase of a volume that the disk has stopped says nothing
@@ -132,4 +133,5 @@ kept_unphased v p why opening d idle halted was = record {
   reads = λ runs. absurd (let no : None ≡ Some why = sym runs ∙ halted in let f : ⊥ = cc in f);
   stops = λ runs. absurd (let no : None ≡ Some why = sym runs ∙ halted in let f : ⊥ = cc in f);
   safe = was.safe;
+  earlier = was.earlier;
 }

@@ -13,10 +13,12 @@ IsPutAt z start bytes y s value =
 pub data_step : (reads old new : Image) (z start : ℕ) (bytes : List ℕ) (y s : ℕ) → WriteStep reads z start bytes old new
     → (old.geometry.conv ≤ z → start ≡ reads.held z) → s < old.held y → s < reads.held y
     → (s < new.held y)
-    × ((new.sector y s ≡ old.sector y s) ⊎ ((new.sector y s ≡ reads.sector y s) ⊎ IsPutAt z start bytes y s (new.sector y s)))
+    × ((new.sector y s ≡ old.sector y s) ⊎ ((new.sector y s ≡ reads.sector y s)
+    ⊎ IsPutAt z start bytes y s (new.sector y s)))
 data_step reads old new z start bytes y s w pointer l m = elim (cases_eq y z) [
   | inl here ↦ subst (λ (u : ℕ). (s < new.held u)
-      × ((new.sector u s ≡ old.sector u s) ⊎ ((new.sector u s ≡ reads.sector u s) ⊎ ((y ≡ z) × ((j : ℕ) × (j < count_of bytes) × (s ≡ start + j) × (new.sector u s ≡ piece bytes j))))))
+      × ((new.sector u s ≡ old.sector u s) ⊎ ((new.sector u s ≡ reads.sector u s)
+      ⊎ ((y ≡ z) × ((j : ℕ) × (j < count_of bytes) × (s ≡ start + j) × (new.sector u s ≡ piece bytes j))))))
       (let back : z ≡ y = omega (arith, here) in back)
       (by_kind here (subst (λ (u : ℕ). s < old.held u) here l) (subst (λ (u : ℕ). s < reads.held u) here m))
   | inr other ↦
@@ -25,7 +27,8 @@ data_step reads old new z start bytes y s w pointer l m = elim (cases_eq y z) [
 ]
   where
     by_kind : y ≡ z → s < old.held z → s < reads.held z → (s < new.held z)
-        × ((new.sector z s ≡ old.sector z s) ⊎ ((new.sector z s ≡ reads.sector z s) ⊎ ((y ≡ z) × ((j : ℕ) × (j < count_of bytes) × (s ≡ start + j) × (new.sector z s ≡ piece bytes j)))))
+        × ((new.sector z s ≡ old.sector z s) ⊎ ((new.sector z s ≡ reads.sector z s)
+        ⊎ ((y ≡ z) × ((j : ℕ) × (j < count_of bytes) × (s ≡ start + j) × (new.sector z s ≡ piece bytes j)))))
     by_kind here in_old in_reads = elim (cases_lt z old.geometry.conv) [
       | inl conv ↦
           let at = w.conventional conv in
@@ -46,17 +49,22 @@ data_step reads old new z start bytes y s w pointer l m = elim (cases_eq y z) [
     ]
 
 -- after one that was done: as it was, or put
-pub data_wrote : (old new : Image) (z start : ℕ) (bytes : List ℕ) (y s : ℕ) → Wrote z start bytes old new → s < old.held y
+pub data_wrote : (old new : Image) (z start : ℕ) (bytes : List ℕ) (y s : ℕ) → Wrote z start bytes old new
+    → s < old.held y
     → (s < new.held y) × ((new.sector y s ≡ old.sector y s) ⊎ IsPutAt z start bytes y s (new.sector y s))
 data_wrote old new z start bytes y s w l = elim (cases_eq y z) [
-  | inl here ↦ subst (λ (u : ℕ). (s < new.held u) × ((new.sector u s ≡ old.sector u s) ⊎ ((y ≡ z) × ((j : ℕ) × (j < count_of bytes) × (s ≡ start + j) × (new.sector u s ≡ piece bytes j)))))
+  | inl here ↦
+      subst (λ (u : ℕ). (s < new.held u) × ((new.sector u s ≡ old.sector u s)
+      ⊎ ((y ≡ z) × ((j : ℕ) × (j < count_of bytes) × (s ≡ start + j) × (new.sector u s ≡ piece bytes j)))))
       (let back : z ≡ y = omega (arith, here) in back) (in_zone here (subst (λ (u : ℕ). s < old.held u) here l))
   | inr other ↦
       let same = w.others y other in
       (omega (arith, same.held), inl (same.sectors s l))
 ]
   where
-    in_zone : y ≡ z → s < old.held z → (s < new.held z) × ((new.sector z s ≡ old.sector z s) ⊎ ((y ≡ z) × ((j : ℕ) × (j < count_of bytes) × (s ≡ start + j) × (new.sector z s ≡ piece bytes j))))
+    in_zone : y ≡ z → s < old.held z → (s < new.held z)
+        × ((new.sector z s ≡ old.sector z s) ⊎ ((y ≡ z)
+        × ((j : ℕ) × (j < count_of bytes) × (s ≡ start + j) × (new.sector z s ≡ piece bytes j))))
     in_zone here in_old =
         let h = w.zone.held in (
           omega (arith, h),
@@ -65,7 +73,15 @@ data_wrote old new z start bytes y s w l = elim (cases_eq y z) [
             | inr from ↦ elim (cases_lt s (start + count_of bytes)) [
               | inl in_it ↦
                   let at : s ≡ start + (s - start) = omega arith in
-                  inr (here, (s - start, omega arith, at, ap (λ (k : ℕ). new.sector z k) at ∙ w.zone.put (s - start) (omega arith)))
+                  inr (
+                    here,
+                    (
+                      s - start,
+                      omega arith,
+                      at,
+                      ap (λ (k : ℕ). new.sector z k) at ∙ w.zone.put (s - start) (omega arith),
+                    ),
+                  )
               | inr behind ↦ inl (w.zone.behind s behind in_old)
             ]
           ],

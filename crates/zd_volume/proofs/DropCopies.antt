@@ -10,7 +10,7 @@ use Rattle.zd_model.specs.Safe.{last_at}
 use Rattle.zd_model.specs.Tables.{entry_of}
 use Rattle.zd_model.proofs.LastLaws.{covers_cases}
 use Rattle.zd_tables.specs.Tables.{tables_in}
-use Rattle.zd_volume.specs.Discards.{ClearsRange, DiscardsBlocks, NoJobOn, chunk_of, end_of, first_of}
+use Rattle.zd_volume.specs.Discards.{ClearsRange, DiscardsBlocks, NoJobOn, chunk_touched, end_of, first_of}
 use Rattle.zd_volume.specs.Jobs.{AreCopied, HasCopies, IsJob, IsJobOrNone, sector_of_chunk, source_of}
 use Rattle.zd_volume.specs.Sets.{AreSets, Sets, device_sectors, new_tables}
 use Rattle.zd_volume.specs.declared.work.Work.{Work}
@@ -27,10 +27,11 @@ chunk_of_sector g chunk x j within few =
 
 module _ (s : Sets) (are : AreSets s) (base : List (List ℕ)) (size : length base ≡ device_sectors s)
     (h : List HistoryEntry) (e : HistoryEntry) (is : DiscardsBlocks s e.what) (done : e.reply ≡ Done) (bytes : List ℕ)
-    (did : ClearsRange s (chunk_of s.geometry.zone_blocks e.what) (first_of s.geometry.zone_blocks e.what)
+    (did : ClearsRange s (chunk_touched s.geometry.zone_blocks e.what) (first_of s.geometry.zone_blocks e.what)
     (end_of s.geometry.zone_blocks e.what) bytes) where
   -- the sectors of another chunk are as they were
-  other_last : (chunk x j : ℕ) → chunk ≢ chunk_of s.geometry.zone_blocks e.what → x < s.geometry.zone_blocks → j < 8
+  other_last : (chunk x j : ℕ) → chunk ≢ chunk_touched s.geometry.zone_blocks e.what → x < s.geometry.zone_blocks
+      → j < 8
       → last_at base (h ++ e ∷ []) (sector_of_chunk s.geometry chunk x j)
       ≡ last_at base h (sector_of_chunk s.geometry chunk x j)
   other_last chunk x j off within few = elim (covers_cases e.what (sector_of_chunk s.geometry chunk x j)) [
@@ -39,7 +40,8 @@ module _ (s : Sets) (are : AreSets s) (base : List (List ℕ)) (size : length ba
     | inr out ↦ last_outside s base size h e is done (sector_of_chunk s.geometry chunk x j) out
   ]
 
-  are_dropped : (w : Work) (pointers buffer : List ℕ) (i : Image) → w.job.chunk ≢ chunk_of s.geometry.zone_blocks e.what
+  are_dropped : (w : Work) (pointers buffer : List ℕ) (i : Image)
+      → w.job.chunk ≢ chunk_touched s.geometry.zone_blocks e.what
       → IsJob s pointers w → AreCopied s buffer w base h i
       → AreCopied (record s { new = bytes }) buffer w base (h ++ e ∷ []) i
   are_dropped w pointers buffer i off job copies = record {
@@ -47,7 +49,7 @@ module _ (s : Sets) (are : AreSets s) (base : List (List ℕ)) (size : length ba
         let inside = job.inside in
         let was = copies.copied y z x j
         (sym (ap (λ m. source_of w.job.kind m) (did.bits.entries w.job.chunk)) ∙ source) to low
-        (still_valid (entry_of (new_tables s) (chunk_of s.geometry.zone_blocks e.what))
+        (still_valid (entry_of (new_tables s) (chunk_touched s.geometry.zone_blocks e.what))
         (first_of s.geometry.zone_blocks e.what) (end_of s.geometry.zone_blocks e.what) (new_tables s)
         (tables_in s.geometry s.head.layout bytes) did.bits y x valid) few in
         (was.0, was.1 ∙ sym (other_last w.job.chunk x j off (omega (arith, low, inside)) few));
@@ -58,7 +60,7 @@ module _ (s : Sets) (are : AreSets s) (base : List (List ℕ)) (size : length ba
   }
 
   pub copies_dropped : (job : Option Work) (pointers buffer : List ℕ) (i : Image)
-      → NoJobOn job (chunk_of s.geometry.zone_blocks e.what) → IsJobOrNone s pointers job
+      → NoJobOn job (chunk_touched s.geometry.zone_blocks e.what) → IsJobOrNone s pointers job
       → HasCopies s buffer job base h i
       → HasCopies (record s { new = bytes }) buffer job base (h ++ e ∷ []) i
   copies_dropped None pointers buffer i off jobs copies = tt

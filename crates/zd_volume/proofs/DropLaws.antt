@@ -19,8 +19,9 @@ use Rattle.zd_model.proofs.ArrayLaws.{length-last_array}
 use Rattle.zd_model.proofs.HeldLaws.{AreBy-push}
 use Rattle.zd_disk.specs.View.{View}
 use Rattle.zd_tables.specs.Tables.{tables_in}
-use Rattle.zd_volume.specs.Discards.{ClearsRange, DiscardsBlocks, DropsRange, NoJobOn, after_drop, chunk_of, end_of}
-use Rattle.zd_volume.specs.Discards.{entry_for, first_of}
+use Rattle.zd_volume.specs.Discards.{ClearsRange, DiscardsBlocks, DropsRange, NoJobOn, after_drop, chunk_touched, end_of}
+use Rattle.zd_volume.specs.Discards.{first_of}
+use Rattle.zd_volume.specs.Flights.{answered}
 use Rattle.zd_volume.specs.FaultCounts.{AreCalm}
 use Rattle.zd_volume.specs.Jobs.{class_in}
 use Rattle.zd_volume.specs.LeftImages.{MayBeLeft, ReadsAs}
@@ -62,16 +63,18 @@ done_tells e done =
 
 module _ (v : PlainVolume) (opening now : View) (runs : v.stopped ≡ None) (was : IsKeptVolume v opening now)
     (idle : v.phase ≡ Idle) (e : HistoryEntry) (is : DiscardsBlocks (sets_of v) e.what) (done : e.reply ≡ Done)
-    (at : e.at ≡ v.since) (off : NoJobOn v.job (chunk_of v.geometry.zone_blocks e.what))
+    (at : e.at ≡ v.since) (off : NoJobOn v.job (chunk_touched v.geometry.zone_blocks e.what))
     (bytes : List ℕ) (dirty : List Bool) (classes : List (Option JobClass))
-    (did : ClearsRange (sets_of v) (chunk_of v.geometry.zone_blocks e.what) (first_of v.geometry.zone_blocks e.what)
+    (did : ClearsRange (sets_of v) (chunk_touched v.geometry.zone_blocks e.what)
+    (first_of v.geometry.zone_blocks e.what)
     (end_of v.geometry.zone_blocks e.what) bytes)
     (marks : MarksChanged v.fresh bytes v.dirty dirty)
-    (gives : GivesClass (chunk_of v.geometry.zone_blocks e.what)
-    (class_in v.geometry v.pointers (tables_in v.geometry v.head.layout bytes) (chunk_of v.geometry.zone_blocks e.what))
+    (gives : GivesClass (chunk_touched v.geometry.zone_blocks e.what)
+    (class_in v.geometry v.pointers (tables_in v.geometry v.head.layout bytes)
+    (chunk_touched v.geometry.zone_blocks e.what))
     v.standings.classes classes) where
   abbrev c : ℕ
-  c = chunk_of v.geometry.zone_blocks e.what
+  c = chunk_touched v.geometry.zone_blocks e.what
 
   abbrev first : ℕ
   first = first_of v.geometry.zone_blocks e.what
@@ -134,20 +137,20 @@ module _ (v : PlainVolume) (opening now : View) (runs : v.stopped ≡ None) (was
 pub drops_by : (v : PlainVolume) (p : Piece) (middle bytes : List ℕ) (half marked : List Bool)
     (classes : List (Option JobClass)) → AreSets (sets_of v) → DiscardsBlocks (sets_of v) p.what
     → GivesBitsIn false v.geometry v.head.layout
-    (entry_of (new_tables (sets_of v)) (chunk_of v.geometry.zone_blocks p.what)).zone
+    (entry_of (new_tables (sets_of v)) (chunk_touched v.geometry.zone_blocks p.what)).zone
     (first_of v.geometry.zone_blocks p.what) (end_of v.geometry.zone_blocks p.what) v.fresh middle v.dirty half
     → GivesBitsIn false v.geometry v.head.layout
-    (entry_of (new_tables (sets_of v)) (chunk_of v.geometry.zone_blocks p.what)).buffer
+    (entry_of (new_tables (sets_of v)) (chunk_touched v.geometry.zone_blocks p.what)).buffer
     (first_of v.geometry.zone_blocks p.what) (end_of v.geometry.zone_blocks p.what) middle bytes half marked
-    → GivesClass (chunk_of v.geometry.zone_blocks p.what)
+    → GivesClass (chunk_touched v.geometry.zone_blocks p.what)
     (class_in v.geometry v.pointers (tables_in v.geometry v.head.layout bytes)
-    (chunk_of v.geometry.zone_blocks p.what)) v.standings.classes classes
-    → DropsRange v (after_drop v bytes marked classes (entry_for p answers.Done v.since)) p
+    (chunk_touched v.geometry.zone_blocks p.what)) v.standings.classes classes
+    → DropsRange v (after_drop v bytes marked classes (answered p answers.Done v.since)) p
 drops_by v p middle bytes half marked classes are is one two gives = record {
-  range = range_cleared (sets_of v) are (chunk_of v.geometry.zone_blocks p.what)
+  range = range_cleared (sets_of v) are (chunk_touched v.geometry.zone_blocks p.what)
       (first_of v.geometry.zone_blocks p.what) (end_of v.geometry.zone_blocks p.what) is.inside middle bytes v.dirty
       half marked one two;
-  dirty = range_marked (sets_of v) are (chunk_of v.geometry.zone_blocks p.what)
+  dirty = range_marked (sets_of v) are (chunk_touched v.geometry.zone_blocks p.what)
       (first_of v.geometry.zone_blocks p.what) (end_of v.geometry.zone_blocks p.what) is.inside middle bytes v.dirty
       half marked one two;
   classes = gives;
@@ -157,8 +160,9 @@ drops_by v p middle bytes half marked classes are is one two gives = record {
 -- it keeps the volume
 pub kept_drop : (from to : PlainVolume) (p : Piece) (opening now : View) → from.stopped ≡ None
     → IsKeptVolume from opening now → from.phase ≡ Idle → DiscardsBlocks (sets_of from) p.what
-    → NoJobOn from.job (chunk_of from.geometry.zone_blocks p.what) → DropsRange from to p → IsKeptVolume to opening now
+    → NoJobOn from.job (chunk_touched from.geometry.zone_blocks p.what) → DropsRange from to p
+    → IsKeptVolume to opening now
 kept_drop from to p opening now runs was idle is off drops =
     subst (λ (w : PlainVolume). IsKeptVolume w opening now) (sym drops.rest)
-    (kept_after from opening now runs was idle (entry_for p answers.Done from.since) is refl refl off to.fresh to.dirty
+    (kept_after from opening now runs was idle (answered p answers.Done from.since) is refl refl off to.fresh to.dirty
     to.standings.classes drops.range drops.dirty drops.classes)

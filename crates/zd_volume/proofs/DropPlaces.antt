@@ -18,7 +18,7 @@ use Rattle.zd_model.specs.declared.requests.What.TheVariants.{Read, Write, Disca
 use Rattle.zd_model.proofs.ArrayLaws.{ends_inside}
 use Rattle.zd_model.proofs.LastLaws.{IsOutside}
 use Rattle.zd_model.proofs.ServedLaws.{placed, unplaced}
-use Rattle.zd_volume.specs.Discards.{ClearsBits, DiscardsBlocks, chunk_of, end_of, first_of}
+use Rattle.zd_volume.specs.Discards.{ClearsBits, DiscardsBlocks, chunk_touched, end_of, first_of}
 use Rattle.zd_volume.specs.Sets.{Sets, device_sectors}
 use Rattle.zd_volume.proofs.DropTables.{in_or_out}
 use Rattle.zd_volume.proofs.PlaceLaws.{cases_place}
@@ -106,13 +106,14 @@ module _ (s : Sets) (what : What) (is : DiscardsBlocks s what) where
 
   -- its sectors are those of its blocks of its chunk
   pub covers_within : (n : ℕ) → Covers what n
-      → IsWithin s.geometry.zone_blocks (chunk_of s.geometry.zone_blocks what) (first_of s.geometry.zone_blocks what)
+      → IsWithin s.geometry.zone_blocks (chunk_touched s.geometry.zone_blocks what)
+      (first_of s.geometry.zone_blocks what)
       (end_of s.geometry.zone_blocks what) n
   covers_within n covers =
       let whole = whole_blocks what is.discards in
       let inside = is.inside in
       let blocks = div-add-mod' (first_block what) b in
-      let c : ℕ = chunk_of b what in
+      let c : ℕ = chunk_touched b what in
       let r : ℕ = n / 8 - c * b in
       let at : n / 8 ≡ c * b + r = omega (arith, whole.0, whole.1, blocks, covers.0, covers.1) in
       let low : first_of b what ≤ r = omega (arith, whole.0, whole.1, blocks, covers.0, covers.1) in
@@ -122,19 +123,21 @@ module _ (s : Sets) (what : What) (is : DiscardsBlocks s what) where
       (ap (λ (k : ℕ). k / b) at ∙ div-mul-add c b r few, omega (arith, rest, low), omega (arith, rest, high))
 
   pub within_covers : (n : ℕ)
-      → IsWithin s.geometry.zone_blocks (chunk_of s.geometry.zone_blocks what) (first_of s.geometry.zone_blocks what)
+      → IsWithin s.geometry.zone_blocks (chunk_touched s.geometry.zone_blocks what)
+      (first_of s.geometry.zone_blocks what)
       (end_of s.geometry.zone_blocks what) n
       → Covers what n
   within_covers n h =
       let whole = whole_blocks what is.discards in
       let blocks = div-add-mod' (first_block what) b in
-      let there : chunk_of b what * b + n / 8 % b ≡ n / 8 =
+      let there : chunk_touched b what * b + n / 8 % b ≡ n / 8 =
       ap (λ (c : ℕ). c * b + n / 8 % b) (sym h.0) ∙ div-add-mod' (n / 8) b in
       (omega (arith, whole.0, blocks, there, h.1), omega (arith, whole.0, whole.1, blocks, there, h.2))
 
   -- one that is outside isn't within
   pub outside_within : (n : ℕ) → IsOutside what n
-      → IsWithin s.geometry.zone_blocks (chunk_of s.geometry.zone_blocks what) (first_of s.geometry.zone_blocks what)
+      → IsWithin s.geometry.zone_blocks (chunk_touched s.geometry.zone_blocks what)
+      (first_of s.geometry.zone_blocks what)
       (end_of s.geometry.zone_blocks what) n → ⊥
   outside_within n off h =
       let c = within_covers n h in
@@ -147,7 +150,7 @@ module _ (s : Sets) (what : What) (is : DiscardsBlocks s what) where
       let inside = is.inside in
       let there = is.there in
       let blocks = div-add-mod' (first_block what) b in
-      let up = mul-le-mul_right {m = chunk_of b what + 1} {n = s.head.layout.chunks} b (omega (arith, there)) in
-      let split : (chunk_of b what + 1) * b ≡ chunk_of b what * b + b = omega arith in
+      let up = mul-le-mul_right {m = chunk_touched b what + 1} {n = s.head.layout.chunks} b (omega (arith, there)) in
+      let split : (chunk_touched b what + 1) * b ≡ chunk_touched b what * b + b = omega arith in
       let total : device_sectors s ≡ 8 * (s.head.layout.chunks * b) = omega arith in
       ends_inside (device_sectors s) what (omega (arith, whole.0, whole.1, inside, blocks, up, split, total))

@@ -19,7 +19,7 @@ use Rattle.zd_model.proofs.HistoryLaws.{last_array-push}
 use Rattle.zd_model.proofs.LastLaws.{IsOutside, covers_cases, put_in, put_off}
 use Rattle.zd_model.proofs.ServedLaws.{unplaced}
 use Rattle.zd_tables.specs.Tables.{tables_in}
-use Rattle.zd_volume.specs.Discards.{ClearsRange, DiscardsBlocks, chunk_of, end_of, first_of}
+use Rattle.zd_volume.specs.Discards.{ClearsRange, DiscardsBlocks, chunk_touched, end_of, first_of}
 use Rattle.zd_volume.specs.LeftImages.{MayBeLeft, ReadsAs}
 use Rattle.zd_volume.specs.Sets.{AreSets, Sets, device_sectors, new_tables}
 use Rattle.zd_volume.specs.declared.phase.Phase.TheVariants.{Idle}
@@ -63,13 +63,13 @@ module _ (s : Sets) (base : List (List ℕ)) (size : length base ≡ device_sect
 
   -- WHAT THE DISK READS AS
   module _ (are : AreSets s) (bytes : List ℕ)
-      (did : ClearsRange s (chunk_of s.geometry.zone_blocks e.what) (first_of s.geometry.zone_blocks e.what)
+      (did : ClearsRange s (chunk_touched s.geometry.zone_blocks e.what) (first_of s.geometry.zone_blocks e.what)
       (end_of s.geometry.zone_blocks e.what) bytes) where
     abbrev b : ℕ
     b = s.geometry.zone_blocks
 
     abbrev c : ℕ
-    c = chunk_of s.geometry.zone_blocks e.what
+    c = chunk_touched s.geometry.zone_blocks e.what
 
     abbrev t : Tables
     t = new_tables s
@@ -77,8 +77,8 @@ module _ (s : Sets) (base : List (List ℕ)) (size : length base ≡ device_sect
     abbrev u : Tables
     u = tables_in s.geometry s.head.layout bytes
 
-    apart : (d z : ℕ) → d ≢ chunk_of s.geometry.zone_blocks e.what → NamesZone (entry_of (new_tables s) d) z
-        → NamesZone (entry_of (new_tables s) (chunk_of s.geometry.zone_blocks e.what)) z → ⊥
+    apart : (d z : ℕ) → d ≢ chunk_touched s.geometry.zone_blocks e.what → NamesZone (entry_of (new_tables s) d) z
+        → NamesZone (entry_of (new_tables s) (chunk_touched s.geometry.zone_blocks e.what)) z → ⊥
     apart d z off n m = off (are.new_rules.map.named_once d c z n m)
 
     pub reads_dropped : (i : Image) → ReadsAs Idle s base h i

@@ -1,14 +1,13 @@
 -- A piece that is entered without a writing call keeps a volume: a read with its bytes or with Fault, and a piece
 -- that ends past the device.
-use Rattle.std.proofs.Common.{◌≡◌, ◌≢◌, ℕ, ◌+◌, ◌-◌, ◌*◌, ◌/◌, ◌%◌, ◌^◌, ◌<◌, ◌≤◌, Bool, true, false, cond, List, [], ◌∷◌, ◌++◌, length, slice_index_or, Option, Some, None, refl, sym, ap, ap₂, ◌∙◌, subst, arith}
+use Rattle.std.proofs.Common.{◌≡◌, ◌≢◌, ℕ, ◌+◌, ◌*◌, ◌/◌, ◌≤◌, Bool, true, false, cond, List, [], ◌∷◌, length, slice_index_or, Option, Some, None, refl, sym, ap, ◌∙◌, arith}
 use Rattle.std.proofs.Math.Nat.{mul-le-mul_right}
 use Rattle.std.proofs.lemmas.Nat.{div-add-mod'}
-use Rattle.zd_base.specs.Geometry.{zone_sectors}
 use Rattle.zd_model.specs.History.{HistoryEntry, IsLegal, entry_after, last_array}
 use Rattle.zd_model.specs.Image.{Image}
-use Rattle.zd_model.specs.Plain.{Answer, ends_past, reply_to, reply_within}
+use Rattle.zd_model.specs.Plain.{Answer, ends_past, reply_within}
 use Rattle.zd_model.specs.Plain.Answer.{Done, Fault, Got, Range}
-use Rattle.zd_model.specs.Requests.{Operation, first_sector, operation_of, sector_count}
+use Rattle.zd_model.specs.Requests.{first_sector, operation_of}
 use Rattle.zd_model.specs.Requests.Operation.{Reading, Writing}
 use Rattle.zd_model.specs.Bytes.{zero_sector}
 use Rattle.zd_model.specs.Safe.{base_at, last_at}
@@ -26,7 +25,7 @@ use Rattle.zd_volume.specs.Flights.{IsPieceIn, answered, serves, with_entry}
 use Rattle.zd_volume.specs.Jobs.{HasCopies, sector_of_chunk}
 use Rattle.zd_volume.specs.Sets.{Sets, device_sectors}
 use Rattle.zd_volume.specs.declared.work.Work.{Work}
-use Rattle.zd_volume.specs.Volumes.{IsKeptVolume, IsNow, MayBe, PlainVolume, sets_of}
+use Rattle.zd_volume.specs.Volumes.{IsKeptVolume, PlainVolume, sets_of}
 use Rattle.zd_volume.proofs.FaultEntries.{calm_more, faults_none, faults_read}
 use Rattle.zd_volume.proofs.Images.{left_history}
 use Rattle.zd_volume.proofs.LegalEntries.{legal_plain, legal_read_fault}
@@ -34,7 +33,8 @@ use Rattle.zd_volume.proofs.ServesLaws.{serves_last}
 use Rattle.zd_volume.proofs.Still.{faulted_later, kept_still}
 
 -- an answer that isn't Done changes no sector, and acknowledges no flush
-after_quiet : (array : List (List ℕ)) (what : What) (reply : Answer) → reply ≢ Done → entry_after array what reply ≡ array
+after_quiet : (array : List (List ℕ)) (what : What) (reply : Answer) → reply ≢ Done
+    → entry_after array what reply ≡ array
 after_quiet array what (Got bytes) quiet = refl
 after_quiet array what Done quiet = absurd (quiet refl)
 after_quiet array what Range quiet = refl
@@ -112,7 +112,8 @@ module _ (v : PlainVolume) (opening u x : View) (runs : v.stopped ≡ None) (io 
               served = λ n l. now.read.served n l ∙ sym (last_same n);
             };
             pointers = now.pointers;
-            copies = copies_grow (sets_of v) v.buffer v.job base v.history (with_entry v p reply).history r last_same now.copies;
+            copies = copies_grow (sets_of v) v.buffer v.job base v.history
+                (with_entry v p reply).history r last_same now.copies;
           };
           stops = λ _ r c t may.
               left_history v.phase (sets_of v) base v.history (with_entry v p reply).history v.since c

@@ -1,12 +1,10 @@
 -- A call of a commit that failed: the volume is stopped, and the flushes that wait are entered with Fault.
-use Rattle.std.proofs.Common.{◌≡◌, ℕ, ◌+◌, ◌-◌, ◌^◌, ◌<◌, ◌≤◌, List, ◌++◌, None, Some, arith}
+use Rattle.std.proofs.Common.{◌≡◌, ℕ, ◌≤◌, List, ◌++◌, None, Some, arith}
 use Rattle.std.specs.List.{AllByRecursion}
-use Rattle.zd_base.specs.Faults.{Rose}
 use Rattle.zd_base.specs.declared.numbers.Why.{Why}
 use Rattle.zd_model.specs.History.{HistoryEntry, IsLegal}
 use Rattle.zd_model.specs.Image.{Image}
 use Rattle.zd_model.specs.Safe.{IsSafe, base_at}
-use Rattle.zd_model.specs.Stops.{AreBy}
 use Rattle.zd_model.proofs.HeldLaws.{AreBy-append}
 use Rattle.zd_model.proofs.SafeHistory.{safe_more}
 use Rattle.zd_disk.specs.Told.{next_count}
@@ -26,7 +24,8 @@ failed_with v entries = record v {
   stopped = Some Why.Device;
 }
 
-pub kept_failed_call : (v : PlainVolume) (entries : List HistoryEntry) (opening d e : View) (step : Image → Image → Image → Type 0)
+pub kept_failed_call : (v : PlainVolume) (entries : List HistoryEntry) (opening d e : View)
+    (step : Image → Image → Image → Type 0)
     → v.stopped ≡ None → IsKeptVolume v opening d → MakesCall v (failed_with v entries) d e step → HasFailed d e
     → AllByRecursion (IsFailedFlushAt (next_count v.since)) entries
     → ((r : Image) → d.zones ≡ Some r → IsLegal (base_at opening.zones) v.history

@@ -1,5 +1,5 @@
 -- What entries and failures make of the count of faults.
-use Rattle.std.proofs.Common.{◌≡◌, ◌≢◌, ℕ, ◌+◌, ◌-◌, ◌^◌, ◌<◌, ◌≤◌, Bool, true, false, cond, ◌||◌, List, [], ◌∷◌, ◌++◌, Option, Some, refl, sym, ap, ap₂, ◌∙◌, subst, arith}
+use Rattle.std.proofs.Common.{◌≡◌, ◌≢◌, ℕ, ◌+◌, ◌≤◌, Bool, true, false, cond, ◌||◌, List, [], ◌∷◌, ◌++◌, Option, Some, refl, sym, ap, ap₂, ◌∙◌, arith}
 use Rattle.std.proofs.lemmas.List.Folds.{list_any-append}
 use Rattle.std.proofs.lemmas.List.Sums.{sum_by-append}
 use Rattle.std.specs.List.{AllByRecursion, count_by, list_any}
@@ -13,7 +13,7 @@ use Rattle.zd_model.specs.Requests.Operation.{Reading, Writing, Discarding, Flus
 use Rattle.zd_model.specs.Stops.{IsFlushAt}
 use Rattle.zd_model.specs.declared.requests.What.{What}
 use Rattle.zd_model.specs.declared.requests.What.TheVariants.{Flush}
-use Rattle.zd_volume.specs.FaultCounts.{AreCalm, CountsFaults, IsCalm, IsFailedFlushAt, has_fault, is_data, is_faulted, is_flushing, is_reading, read_faults, told_faults}
+use Rattle.zd_volume.specs.FaultCounts.{AreCalm, CountsFaults, IsFailedFlushAt, has_fault, is_data, is_faulted, is_flushing, is_reading, read_faults, told_faults}
 
 count_more : (p : HistoryEntry → Bool) (h es : List HistoryEntry) → count_by p (h ++ es) ≡ count_by p h + count_by p es
 count_more p h es = sum_by-append (λ e. cond (p e) 1 0) h es
@@ -103,12 +103,14 @@ no_fault such e none = by e.reply none
     by Range none = refl
     by Fault none = absurd (none refl)
 
-none_counted : (such : Operation → Bool) (es : List HistoryEntry) → AllByRecursion TellsNone es → count_by (is_faulted such) es ≡ 0
+none_counted : (such : Operation → Bool) (es : List HistoryEntry) → AllByRecursion TellsNone es
+    → count_by (is_faulted such) es ≡ 0
 none_counted such [] all = refl
 none_counted such (e ∷ es) all =
     count_passed (is_faulted such) e es (no_fault such e all.0.reply) (none_counted such es all.1)
 
-none_found : (such : Operation → Bool) (es : List HistoryEntry) → AllByRecursion TellsNone es → list_any (is_faulted such) es ≡ false
+none_found : (such : Operation → Bool) (es : List HistoryEntry) → AllByRecursion TellsNone es
+    → list_any (is_faulted such) es ≡ false
 none_found such [] all = refl
 none_found such (e ∷ es) all =
     ap (λ (b : Bool). b || list_any (is_faulted such) es) (no_fault such e all.0.reply) ∙ none_found such es all.1
@@ -122,13 +124,18 @@ module _ (h es : List HistoryEntry) (all : AllByRecursion TellsNone es) where
   told_same =
       ap₂ (λ (n : ℕ) (b : Bool). n + cond b 1 0)
       (count_more (is_faulted is_data) h es
-      ∙ (let z = none_counted is_data es all in let s : count_by (is_faulted is_data) h + count_by (is_faulted is_data) es ≡ count_by (is_faulted is_data) h = omega (arith, z) in s))
+      ∙ (let z = none_counted is_data es all in
+      let s : count_by (is_faulted is_data) h + count_by (is_faulted is_data) es ≡ count_by (is_faulted is_data) h =
+      omega (arith, z) in s))
       (list_any-append (is_faulted is_flushing) h es
       ∙ ap (λ (b : Bool). list_any (is_faulted is_flushing) h || b) (none_found is_flushing es all)
       ∙ or_false (list_any (is_faulted is_flushing) h))
 
   read_same : read_faults (h ++ es) ≡ read_faults h
-  read_same = (let c = count_more (is_faulted is_reading) h es in let z = none_counted is_reading es all in omega (arith, c, z))
+  read_same =
+      let c = count_more (is_faulted is_reading) h es in
+      let z = none_counted is_reading es all in
+      omega (arith, c, z)
 
   pub faults_none : (stopped : Option Why) (opening now : ℕ) → CountsFaults h stopped opening now
       → CountsFaults (h ++ es) stopped opening now
@@ -153,8 +160,10 @@ calm_more (e ∷ h) es calm also = (calm.0, calm_more h es calm.1 also)
 -- flushes that were done
 pub done_none : (at : ℕ) (es : List HistoryEntry) → AllByRecursion (IsFlushAt at) es → AllByRecursion TellsNone es
 done_none at [] all = tt
-done_none at (e ∷ es) all =
-    (record { reply = λ fault. (let no : Done ≡ Fault = sym all.0.done ∙ fault in let f : ⊥ = cc in f) }, done_none at es all.1)
+done_none at (e ∷ es) all = (
+  record { reply = λ fault. (let no : Done ≡ Fault = sym all.0.done ∙ fault in let f : ⊥ = cc in f) },
+  done_none at es all.1,
+)
 
 -- A READ THAT FAILED tells the one fault by which the count rose
 faulted_is : (such : Operation → Bool) (e : HistoryEntry) (o : Operation) → e.reply ≡ Fault → operation_of e.what ≡ o
@@ -168,12 +177,18 @@ faults_read h e stopped opening now then counts more rose fault reads =
     let l = counts.later in
     let both = count_more (is_faulted is_data) h (e ∷ []) in
     let read = count_more (is_faulted is_reading) h (e ∷ []) in
-    let one : count_by (is_faulted is_data) (e ∷ []) ≡ 1 = count_one (is_faulted is_data) e (faulted_is is_data e Reading fault reads) in
-    let first : count_by (is_faulted is_reading) (e ∷ []) ≡ 1 = count_one (is_faulted is_reading) e (faulted_is is_reading e Reading fault reads) in
-    let none : list_any (is_faulted is_flushing) (e ∷ []) ≡ false = ap (λ (b : Bool). b || false) (faulted_is is_flushing e Reading fault reads) in
+    let one : count_by (is_faulted is_data) (e ∷ []) ≡ 1 =
+    count_one (is_faulted is_data) e (faulted_is is_data e Reading fault reads) in
+    let first : count_by (is_faulted is_reading) (e ∷ []) ≡ 1 =
+    count_one (is_faulted is_reading) e (faulted_is is_reading e Reading fault reads) in
+    let none : list_any (is_faulted is_flushing) (e ∷ []) ≡ false =
+    ap (λ (b : Bool). b || false) (faulted_is is_flushing e Reading fault reads) in
     let any : list_any (is_faulted is_flushing) (h ++ e ∷ []) ≡ list_any (is_faulted is_flushing) h =
-    list_any-append (is_faulted is_flushing) h (e ∷ []) ∙ ap (λ (b : Bool). list_any (is_faulted is_flushing) h || b) none ∙ or_false (list_any (is_faulted is_flushing) h) in
-    let same : tally (list_any (is_faulted is_flushing) (h ++ e ∷ [])) ≡ tally (list_any (is_faulted is_flushing) h) = ap tally any in
+    list_any-append (is_faulted is_flushing) h (e ∷ [])
+    ∙ ap (λ (b : Bool). list_any (is_faulted is_flushing) h || b) none
+    ∙ or_false (list_any (is_faulted is_flushing) h) in
+    let same : tally (list_any (is_faulted is_flushing) (h ++ e ∷ [])) ≡ tally (list_any (is_faulted is_flushing) h) =
+    ap tally any in
     record {
       later = omega (arith, more);
       told = λ small. (let t = counts.told (omega (arith, rose)) in omega (arith, rose, both, one, same, t));
@@ -211,7 +226,8 @@ one_most true = omega arith
 one_most false = omega arith
 
 pub faults_flushes : (at : ℕ) (h es : List HistoryEntry) (stopped : Option Why) (opening now then : ℕ)
-    → CountsFaults h stopped opening now → AreCalm h → now ≤ then → Rose now then → AllByRecursion (IsFailedFlushAt at) es
+    → CountsFaults h stopped opening now → AreCalm h → now ≤ then → Rose now then
+    → AllByRecursion (IsFailedFlushAt at) es
     → CountsFaults (h ++ es) (Some Why.Device) opening then
 faults_flushes at h es stopped opening now then counts calm more rose all =
     let l = counts.later in

@@ -1,27 +1,26 @@
 -- The bytes of a read under way: where the next run stands, and what it adds.
-use Rattle.std.proofs.Common.{◌≡◌, ℕ, ◌+◌, ◌-◌, ◌*◌, ◌/◌, ◌%◌, ◌<◌, ◌≤◌, min, List, [], ◌++◌, length, Option, Some, None, refl, sym, ap, ap₂, ◌∙◌, subst, arith, inl, inr}
+use Rattle.std.proofs.Common.{◌≡◌, ℕ, ◌+◌, ◌*◌, ◌/◌, ◌%◌, ◌<◌, ◌≤◌, min, List, [], ◌++◌, Option, Some, sym, ap, ap₂, ◌∙◌, arith, inl, inr}
 use Rattle.std.proofs.lemmas.Bool.{cases_lt}
 use Rattle.std.proofs.lemmas.Nat.{div-add-mod'}
 use Rattle.std.specs.List.{concat, slice_range}
 use Rattle.zd_base.specs.Geometry.{Shape, zone_count, zone_sectors}
 use Rattle.zd_base.specs.Layout.{rounded_up}
 use Rattle.zd_model.specs.Image.{Image, run_of}
-use Rattle.zd_model.specs.Places.{IsPlacedRun, chunk_sector, chunk_sectors, place_in, sector_in}
+use Rattle.zd_model.specs.Places.{chunk_sector, chunk_sectors, sector_in}
 use Rattle.zd_model.specs.Plain.{Answer}
 use Rattle.zd_model.specs.Plain.Answer.{Done, Fault, Got, Range}
 use Rattle.zd_model.specs.Requests.{block_count, first_sector, sector_count}
-use Rattle.zd_model.specs.Tables.{NamesZone, Tables, entry_of, is_valid}
+use Rattle.zd_model.specs.Tables.{Tables, entry_of}
 use Rattle.zd_model.specs.declared.metadata.MapEntry.{MapEntry}
 use Rattle.zd_model.specs.declared.requests.What.{What}
-use Rattle.zd_model.proofs.ServedLaws.{place_valid, reply_is, span_is, zero_joined}
+use Rattle.zd_model.proofs.ServedLaws.{place_valid, reply_is, span_is}
 use Rattle.zd_disk.specs.OfGeometry.{IsImageOf}
 use Rattle.zd_sets.proofs.BlockLaws.{run_then}
 use Rattle.zd_tables.specs.Rules.{AreBelow}
 use Rattle.zd_tables.proofs.TableLaws.{length-entries}
-use Rattle.zd_volume.specs.Flights.{IsPieceIn, IsRunOfRead, chunk_of, first_in_chunk, place_now, sectors_within, serves, tables_now}
+use Rattle.zd_volume.specs.Flights.{chunk_of, first_in_chunk, place_now, sectors_within, serves, tables_now}
 use Rattle.zd_volume.specs.Sets.{AreSets}
 use Rattle.zd_volume.specs.Volumes.{PlainVolume, sets_of}
-use Rattle.zd_volume.specs.declared.flight.Flight.{Flight}
 
 -- NUMBERS: a request whose first sector is sector `from` of a chunk of b blocks
 module _ (b : ℕ) (what : What) where
@@ -110,6 +109,8 @@ module _ (v : PlainVolume) (are : AreSets (sets_of v)) where
         let conv = ap (λ (g : Shape). g.conv) of.geometry in
         let size = ap (λ (g : Shape). g.zone_blocks) of.geometry in
         elim (cases_lt z v.geometry.conv) [
-          | inl low ↦ (let full = of.image.conventional z (omega (arith, low, conv)) in omega (arith, full, size, inside))
+          | inl low ↦
+              let full = of.image.conventional z (omega (arith, low, conv)) in
+              omega (arith, full, size, inside)
           | inr high ↦ below z x high run_zone inside valid
         ]

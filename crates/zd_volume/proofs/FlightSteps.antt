@@ -1,22 +1,22 @@
 -- A step of a read: the run that comes next, and the read after it.
-use Rattle.std.proofs.Common.{◌≡◌, ℕ, ◌+◌, ◌-◌, ◌*◌, ◌/◌, ◌%◌, ◌<◌, ◌≤◌, min, List, ◌++◌, length, Option, Some, None, refl, sym, ap, ap₂, ◌∙◌, subst, arith}
+use Rattle.std.proofs.Common.{◌≡◌, ℕ, ◌+◌, ◌-◌, ◌*◌, ◌/◌, ◌<◌, ◌≤◌, ◌++◌, length, Option, Some, refl, sym, ap, ◌∙◌, subst, arith}
 use Rattle.std.specs.List.{concat, slice_range}
 use Rattle.zd_base.specs.Geometry.{zone_count, zone_sectors}
 use Rattle.zd_base.specs.Layout.{rounded_up}
 use Rattle.zd_model.specs.Image.{Image, run_of}
 use Rattle.zd_model.specs.Places.{IsPlacedRun, sector_in}
-use Rattle.zd_model.specs.Requests.{block_count, first_sector, sector_count}
+use Rattle.zd_model.specs.Requests.{block_count, first_sector}
 use Rattle.zd_model.specs.Room.{ListWithRoom}
 use Rattle.zd_model.specs.declared.requests.What.{What}
 use Rattle.zd_disk.specs.OfGeometry.{IsImageOf}
 use Rattle.zd_disk.specs.Told.{WhereTold}
-use Rattle.zd_disk.specs.View.{OnlyReads, View}
+use Rattle.zd_disk.specs.View.{View}
 use Rattle.zd_tables.specs.Rules.{AreBelow}
-use Rattle.zd_volume.specs.Flights.{HasRead, IsFlight, IsRunOfRead, ReadsAt, ReadsRun, chunk_of, first_in_chunk, end_sector, next_sector, place_now, sectors_within, serves, stop_sector, tables_now}
+use Rattle.zd_volume.specs.Flights.{IsFlight, IsRunOfRead, ReadsAt, ReadsRun, chunk_of, first_in_chunk, end_sector, next_sector, place_now, sectors_within, serves, stop_sector, tables_now}
 use Rattle.zd_volume.specs.Sets.{AreSets}
 use Rattle.zd_volume.specs.Volumes.{PlainVolume, sets_of}
 use Rattle.zd_volume.specs.declared.flight.Flight.{Flight}
-use Rattle.zd_volume.proofs.FlightLaws.{all_within, ends_at, next_block, next_inside, run_ends, run_held, run_zone, served_on}
+use Rattle.zd_volume.proofs.FlightLaws.{ends_at, next_block, next_inside, run_ends, run_held, run_zone, served_on}
 
 module _ (v : PlainVolume) (are : AreSets (sets_of v)) (told : Option Image) (f : Flight) (is : IsFlight v told f) where
   abbrev what : What
@@ -35,12 +35,14 @@ module _ (v : PlainVolume) (are : AreSets (sets_of v)) (told : Option Image) (f 
   blocks_inside = (let h = is.piece.chunk in omega (arith, h))
 
   module _ (zone : Option ℕ) (count : ℕ)
-      (run : IsPlacedRun (place_now v (chunk_of v f.piece.what)) (next_sector v f / 8) (rounded_up (end_sector v f) 8) zone count) where
+      (run : IsPlacedRun (place_now v (chunk_of v f.piece.what)) (next_sector v f / 8)
+      (rounded_up (end_sector v f) 8) zone count) where
     pub run_is : IsRunOfRead v f zone count
     run_is =
         subst (λ (at : ℕ). IsPlacedRun (place_now v (chunk_of v f.piece.what)) at
         (first_in_chunk v f.piece.what / 8 + block_count f.piece.what) zone count) block_is
-        (subst (λ (end : ℕ). IsPlacedRun (place_now v (chunk_of v f.piece.what)) (next_sector v f / 8) end zone count) last_is run)
+        (subst (λ (end : ℕ). IsPlacedRun (place_now v (chunk_of v f.piece.what)) (next_sector v f / 8) end zone count)
+        last_is run)
 
     inside : f.done + count ≤ block_count f.piece.what
     inside = (let a = block_is in let b = last_is in let i = run.inside in omega (arith, a, b, i))
@@ -116,7 +118,8 @@ module _ (v : PlainVolume) (are : AreSets (sets_of v)) (told : Option Image) (f 
               f.bytes.items
               (run_of (sector_in zone i) (next_sector v f) (stop_sector v f count - next_sector v f))
               (omega (arith, ends, more)) (omega arith) (omega (arith, more)) run.same (is.read.bytes i here) refl
-              ∙ ap (λ (n : ℕ). concat (slice_range (serves v i) (first_sector f.piece.what) (first_sector f.piece.what + n)))
+              ∙ ap (λ (n : ℕ). concat (slice_range (serves v i) (first_sector f.piece.what)
+              (first_sector f.piece.what + n)))
               (sym w);
           room = (let r = is.read.room in omega (arith, r, size, room));
         };

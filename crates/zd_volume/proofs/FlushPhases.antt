@@ -1,5 +1,5 @@
 -- The flushes inside a commit, phase by phase.
-use Rattle.std.proofs.Common.{◌≡◌, ℕ, ◌+◌, ◌<◌, ◌≤◌, true, false, List, Bool, get_or, Option, Some, None, inl, inr, ap, ◌∙◌, arith}
+use Rattle.std.proofs.Common.{◌≡◌, ℕ, ◌<◌, ◌≤◌, true, false, List, Bool, get_or, Option, Some, None, inl, inr, ap, ◌∙◌, arith}
 use Rattle.std.proofs.lemmas.Bool.{cases_lt}
 use Rattle.zd_model.specs.Image.{Image}
 use Rattle.zd_model.specs.declared.metadata.Super.{Super}
@@ -27,7 +27,8 @@ module _ (s : Sets) (are : AreSets s) (dirty : List Bool) (flags : AreFlags s di
   -- a set of which nothing is written is written up to the first dirty block
   pub onward : (first : ℕ) (head : Super) (m : ℕ) (i : Image) → m ≤ used s
       → ((j : ℕ) → 1 ≤ j → j < m → get_or dirty j true ≡ false)
-      → IsWritten s.geometry first (used s) head s.old s.new 0 i → IsWritten s.geometry first (used s) head s.old s.new m i
+      → IsWritten s.geometry first (used s) head s.old s.new 0 i
+      → IsWritten s.geometry first (used s) head s.old s.new m i
   onward first head m i le none w =
       skip_same s.geometry first (used s) head s.old s.new i 0 m (omega arith) (same_before m le none) w
 

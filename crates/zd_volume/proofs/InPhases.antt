@@ -1,5 +1,5 @@
 -- A volume in another phase, and images that hold the same.
-use Rattle.std.proofs.Common.{◌≡◌, ◌≢◌, ℕ, ◌+◌, ◌-◌, ◌*◌, ◌^◌, ◌<◌, ◌≤◌, max, min, List, Option, Some, None, sym, ◌∙◌, ap, subst, arith}
+use Rattle.std.proofs.Common.{◌≡◌, ◌≢◌, ℕ, ◌<◌, ◌≤◌, List, Option, Some, sym, ◌∙◌, ap, subst, arith}
 use Rattle.zd_base.specs.Geometry.{Shape}
 use Rattle.zd_base.specs.Layout.{rounded_up}
 use Rattle.zd_base.specs.declared.numbers.Why.{Why}
@@ -69,7 +69,8 @@ module _ (v : PlainVolume) (opening d : View) (was : IsKeptVolume v opening d) w
       → MayBe v (base_at opening.zones) i
       → MayBeLeft v.phase (sets_of v) (base_at opening.zones) v.history k c
   left_same i c k le of same f =
-      let stay = stages_stay (sets_of v) was.fixed.sets v.phase i c (sets_same (sets_of v) was.fixed.sets i c of same) in
+      let stay = stages_stay (sets_of v) was.fixed.sets v.phase i c
+      (sets_same (sets_of v) was.fixed.sets i c of same) in
       left_step (sets_of v) was.fixed.sets v.phase v.phase (base_at opening.zones) v.history v.since k i c of le
       was.counted.by_now stay.0 stay.1 (λ t. t) (λ t. t) (data_same (sets_of v) was.fixed.sets i c same) f
 

@@ -1,5 +1,5 @@
 -- Jobs: their targets are data zones, and what they copied stays where data zones do.
-use Rattle.std.proofs.Common.{◌≡◌, ℕ, ◌+◌, ◌*◌, ◌<◌, ◌≤◌, List, Option, Some, None, inl, inr, sym, ◌∙◌, arith}
+use Rattle.std.proofs.Common.{◌≡◌, ℕ, ◌+◌, ◌*◌, ◌≤◌, List, Option, Some, None, inl, inr, sym, ◌∙◌, arith}
 use Rattle.zd_base.specs.Layout.{first_data_zone}
 use Rattle.zd_model.specs.History.{HistoryEntry}
 use Rattle.zd_model.specs.Image.{Image}

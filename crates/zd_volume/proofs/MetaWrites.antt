@@ -1,11 +1,11 @@
 -- A write of a commit, done or failed.
-use Rattle.std.proofs.Common.{◌≡◌, ◌≢◌, ℕ, ◌+◌, ◌*◌, ◌<◌, ◌≤◌, List, ◌++◌, Option, Some, None, refl, ap, arith}
+use Rattle.std.proofs.Common.{◌≡◌, ℕ, ◌+◌, ◌<◌, ◌≤◌, List, ◌++◌, Some, None, refl, ap, arith}
 use Rattle.std.specs.List.{AllByRecursion}
 use Rattle.zd_base.specs.Geometry.{Shape, zone_sectors}
 use Rattle.zd_base.specs.Layout.{first_data_zone}
 use Rattle.zd_model.specs.History.{HistoryEntry, IsLegal}
 use Rattle.zd_model.specs.Image.{Image}
-use Rattle.zd_model.specs.Safe.{IsSafe, base_at}
+use Rattle.zd_model.specs.Safe.{base_at}
 use Rattle.zd_disk.specs.OfGeometry.{IsImageOf}
 use Rattle.zd_disk.specs.Steps.{Wrote, WriteLeaves, WriteStep, count_of}
 use Rattle.zd_disk.specs.Told.{next_count}
@@ -110,7 +110,8 @@ module _ (v : PlainVolume) (opening d e : View) (runs : v.stopped ≡ None) (was
         past = λ k n x l m. m;
         reads = λ _ r j t u of_r of_j now. reads turns r j t u of_r of_j now;
         before = λ r i c one known w t.
-            safe_now v opening d was q v.since r c t (omega arith) known.new_of (moved v.since r i c (omega arith) known w);
+            safe_now v opening d was q v.since r c t (omega arith) known.new_of
+            (moved v.since r i c (omega arith) known w);
         after = λ r i c one known w t _ _.
             safe_now v opening d was q (next_count v.since) r c t (omega arith) known.new_of
             (moved (next_count v.since) r i c (omega arith) known w);

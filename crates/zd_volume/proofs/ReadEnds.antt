@@ -1,8 +1,7 @@
 -- A read after a run: it goes on, or its piece is answered.
-use Rattle.std.proofs.Common.{◌≡◌, ℕ, ◌+◌, ◌-◌, ◌*◌, ◌/◌, ◌%◌, ◌<◌, ◌≤◌, List, [], length, Option, refl, sym, ap, ◌∙◌, subst, arith, inl}
+use Rattle.std.proofs.Common.{◌≡◌, ℕ, ◌+◌, ◌-◌, ◌*◌, ◌<◌, ◌≤◌, [], length, sym, ap, ◌∙◌, subst, arith}
 use Rattle.std.specs.List.{concat, slice_range}
-use Rattle.zd_model.specs.Image.{Image}
-use Rattle.zd_model.specs.Plain.{Answer, answer_in_range, reply_within}
+use Rattle.zd_model.specs.Plain.{answer_in_range, reply_within}
 use Rattle.zd_model.specs.Plain.Answer.{Got}
 use Rattle.zd_model.specs.Requests.{Operation, block_count, first_sector, operation_of, sector_count}
 use Rattle.zd_model.specs.Requests.Operation.{Reading}
@@ -14,7 +13,8 @@ use Rattle.zd_volume.specs.Volumes.{PlainVolume}
 use Rattle.zd_volume.specs.declared.flight.Flight.{Flight}
 use Rattle.zd_volume.proofs.FlightLaws.{all_within}
 
-module _ (v : PlainVolume) (u x : View) (old new : Flight) (is : IsFlight v u.zones old) (read : ReadsRun v u x old new) where
+module _ (v : PlainVolume) (u x : View) (old new : Flight) (is : IsFlight v u.zones old)
+    (read : ReadsRun v u x old new) where
   within : new.done ≤ block_count old.piece.what
   within = (let i = read.run.inside in let d = read.done in omega (arith, i, d))
 
@@ -42,8 +42,10 @@ module _ (v : PlainVolume) (u x : View) (old new : Flight) (is : IsFlight v u.zo
     pub reply_all : WhereTold u.zones (λ i. Got new.bytes.items ≡ reply_within (serves v i) old.piece.what)
     reply_all i there =
         ap Got (read.read.bytes i there
-        ∙ ap (λ (n : ℕ). concat (slice_range (serves v i) (first_sector new.piece.what) (first_sector new.piece.what + n))) all
-        ∙ ap (λ (p : Piece). concat (slice_range (serves v i) (first_sector p.what) (first_sector p.what + sector_count old.piece.what)))
+        ∙ ap (λ (n : ℕ). concat (slice_range (serves v i) (first_sector new.piece.what)
+        (first_sector new.piece.what + n))) all
+        ∙ ap (λ (p : Piece). concat (slice_range (serves v i) (first_sector p.what)
+        (first_sector p.what + sector_count old.piece.what)))
         read.piece)
         ∙ ap (λ (o : Operation). answer_in_range o (concat (slice_range (serves v i) (first_sector old.piece.what)
         (first_sector old.piece.what + sector_count old.piece.what)))) (sym is.reads)

@@ -1,5 +1,5 @@
 -- What a kept volume serves is the last array of its history, as a list.
-use Rattle.std.proofs.Common.{◌≡◌, ℕ, ◌*◌, ◌<◌, ◌≤◌, List, length, slice_index, None, Some, sym, ap, ◌∙◌, arith}
+use Rattle.std.proofs.Common.{◌≡◌, ℕ, ◌<◌, ◌≤◌, List, length, slice_index, None, Some, ◌∙◌, arith}
 use Rattle.std.proofs.lemmas.List.{same_lists, get_or_default}
 use Rattle.zd_base.specs.Geometry.{zone_count}
 use Rattle.zd_base.specs.Layout.{rounded_up}
@@ -37,7 +37,8 @@ pub serves_last : (v : PlainVolume) (opening now : View) → IsKeptVolume v open
     → (i : Image) → now.zones ≡ Some i
     → served v.geometry.zone_blocks (new_tables (sets_of v)) i.sector ≡ last_array (base_at opening.zones) v.history
 serves_last v opening now kept runs i there =
-    reads_list v.phase (sets_of v) (base_at opening.zones) v.history i (kept.based i there) (kept.reads runs i there).read
+    reads_list v.phase (sets_of v) (base_at opening.zones) v.history i (kept.based i there)
+    (kept.reads runs i there).read
 
 -- the pointer of a sequential zone is that of the disk, rounded up
 pub pointer_held : (v : PlainVolume) (opening now : View) → IsKeptVolume v opening now → v.stopped ≡ None

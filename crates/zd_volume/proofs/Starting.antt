@@ -1,5 +1,5 @@
 -- A volume that starts is one.
-use Rattle.std.proofs.Common.{◌≡◌, ℕ, ◌+◌, ◌-◌, ◌^◌, ◌<◌, List, [], length, slice_index_or, Bool, Option, Some, None, inl, refl, ap, sym, ◌∙◌, subst, arith}
+use Rattle.std.proofs.Common.{◌≡◌, ℕ, ◌+◌, ◌-◌, ◌^◌, ◌<◌, List, [], length, slice_index_or, Bool, Option, Some, inl, refl, ap, sym, ◌∙◌, subst, arith}
 use Rattle.std.specs.Option.{option_map_or}
 use Rattle.zd_base.specs.Geometry.{Shape}
 use Rattle.zd_alloc.specs.Candidates.{Standings}
@@ -97,7 +97,8 @@ module _ (g : Shape) (head : Super) (bytes : List ℕ) (dirty : List Bool) (divi
           first = o.first;
           second = o.second;
           by_old = λ _ n low.
-              inl (opens.content small r t c l n low ∙ sym (base_sector s fixed.sets r (of_reads r t) (opens.reads r t) n low));
+              inl (opens.content small r t c l n low
+              ∙ sym (base_sector s fixed.sets r (of_reads r t) (opens.reads r t) n low));
           below_old = λ _. o.below;
           below_new = λ x. absurd x;
           by_new = λ x. absurd x;
@@ -114,9 +115,14 @@ module _ (g : Shape) (head : Super) (bytes : List ℕ) (dirty : List Bool) (divi
         generation = λ small. omega arith;
         by_now = tt;
       };
-      faulted = record { later = omega arith; told = λ small. omega arith; cause = λ small why. absurd (let f : ⊥ = cc in f) };
+      faulted = record {
+        later = omega arith;
+        told = λ small. omega arith;
+        cause = λ small why. absurd (let f : ⊥ = cc in f);
+      };
       calm = λ _. tt;
-      based = λ r t. at_told r t (λ b. length b ≡ device_sectors s) (base_size s fixed.sets r (of_reads r t) (opens.reads r t));
+      based = λ r t. at_told r t (λ b. length b ≡ device_sectors s)
+          (base_size s fixed.sets r (of_reads r t) (opens.reads r t));
       legal = λ r t. record { answers = tt; in_time = tt };
       reads = λ _ r t. at_told r t (λ b. IsNow v b r)
           (record { read = read r t; pointers = opens.pointers_are r t; copies = tt });
@@ -129,4 +135,5 @@ module _ (g : Shape) (head : Super) (bytes : List ℕ) (dirty : List Bool) (divi
           (at_told r t (λ b. IsSafe b [] 0 c)
           (safe_of s Idle (base_of r) [] 0 c fixed.sets (of_left c here)
           (base_size s fixed.sets r (of_reads r t) (opens.reads r t)) (λ x. absurd x) (left r c t small here)));
+      earlier = λ small r t k i before l. l;
     }

@@ -1,5 +1,5 @@
 -- The steps of a commit, as changes of a volume's values.
-use Rattle.std.specs.Prelude.{◌≡◌, ◌≢◌, ℕ, ◌+◌, ◌-◌, ◌*◌, ◌^◌, ◌<◌, Bool, true, false, cond, ◌==◌}
+use Rattle.std.specs.Prelude.{◌≡◌, ℕ, ◌+◌, ◌-◌, ◌*◌, ◌^◌, ◌<◌, Bool, true, false, ◌==◌}
 use Rattle.std.specs.Prelude.{List, ◌++◌, map, replicate, length, Option, Some, None, if◌then◌else◌}
 use Rattle.std.specs.List.{AllByRecursion}
 use Rattle.zd_base.specs.declared.numbers.Why.{Why}
@@ -15,7 +15,7 @@ use Rattle.zd_volume.specs.declared.phase.Phase.{Phase}
 use Rattle.zd_volume.specs.declared.phase.Phase.TheVariants.{Idle, Log, LogFlush, LogSuper}
 use Rattle.zd_volume.specs.declared.phase.Phase.TheVariants.{LogSuperFlush, InPlace, InPlaceFlush}
 use Rattle.zd_volume.specs.declared.phase.Phase.TheVariants.{InPlaceSuper, InPlaceSuperFlush}
-use Rattle.zd_volume.specs.Phases.{after_block, after_super, after_flush, IsNextDirty}
+use Rattle.zd_volume.specs.Phases.{after_block, IsNextDirty}
 use Rattle.zd_volume.specs.Phases.{end_generation, with_generation}
 use Rattle.zd_volume.specs.Uses.{dirty_from}
 use Rattle.zd_volume.specs.Volumes.{PlainVolume}

@@ -4,7 +4,7 @@ use Rattle.std.specs.Prelude.{◌++◌, length, Option, Some, None, ⊤}
 use Rattle.zd_alloc.specs.Candidates.{GivesClass}
 use Rattle.zd_alloc.specs.declared.job_class.JobClass.{JobClass}
 use Rattle.zd_model.specs.History.{HistoryEntry}
-use Rattle.zd_model.specs.Plain.{Answer, Answer as answers}
+use Rattle.zd_model.specs.Plain.{Answer as answers}
 use Rattle.zd_model.specs.Requests.{block_count, first_block, operation_of}
 use Rattle.zd_model.specs.Requests.Operation.{Discarding}
 use Rattle.zd_model.specs.Tables.{NamesZone, Tables, entry_of, is_valid}
@@ -13,6 +13,7 @@ use Rattle.zd_model.specs.declared.requests.Piece.{Piece}
 use Rattle.zd_model.specs.declared.requests.What.{What}
 use Rattle.zd_sets.specs.Blocks.{blocks_of}
 use Rattle.zd_tables.specs.Tables.{tables_in}
+use Rattle.zd_volume.specs.Flights.{answered}
 use Rattle.zd_volume.specs.Jobs.{class_in}
 use Rattle.zd_volume.specs.Marks.{MarksChanged}
 use Rattle.zd_volume.specs.Sets.{Sets, new_tables}
@@ -21,8 +22,8 @@ use Rattle.zd_volume.specs.declared.work.Work.{Work}
 
 -- the chunk of a piece, and its blocks of that chunk: the first, and the one behind the last. Zones
 -- have b blocks
-abbrev pub chunk_of : ℕ → What → ℕ
-chunk_of b what = first_block what / b
+abbrev pub chunk_touched : ℕ → What → ℕ
+chunk_touched b what = first_block what / b
 
 abbrev pub first_of : ℕ → What → ℕ
 first_of b what = first_block what % b
@@ -34,7 +35,7 @@ end_of b what = first_of b what + block_count what
 pub record DiscardsBlocks (s : Sets) (what : What) : Type 0 where
   pub discards : operation_of what ≡ Discarding
   pub inside : end_of s.geometry.zone_blocks what ≤ s.geometry.zone_blocks
-  pub there : chunk_of s.geometry.zone_blocks what < s.head.layout.chunks
+  pub there : chunk_touched s.geometry.zone_blocks what < s.head.layout.chunks
 
 -- the blocks of a range are invalid in the zones of an entry now; all else of the tables is as it
 -- was
@@ -57,17 +58,6 @@ abbrev pub NoJobOn : Option Work → ℕ → Type 0
 NoJobOn None chunk = ⊤
 NoJobOn (Some w) chunk = w.job.chunk ≢ chunk
 
--- a piece is entered with this reply
-abbrev pub entry_for : Piece → Answer → ℕ → HistoryEntry
-entry_for p reply at = record {
-  caller = p.caller;
-  request = p.request;
-  piece = p.piece;
-  what = p.what;
-  reply = reply;
-  at = at;
-}
-
 -- the tables, the flags and the classes are these, and an entry is added
 abbrev pub after_drop : PlainVolume → List ℕ → List Bool → List (Option JobClass) → HistoryEntry
     → PlainVolume
@@ -81,12 +71,12 @@ after_drop v fresh dirty classes e = record v {
 -- THE DISCARD OF A PIECE: its blocks are invalid in both zones of the chunk, the blocks of the set
 -- that changed are dirty, the chunk has its class anew, and the piece is entered with Done
 pub record DropsRange (from to : PlainVolume) (p : Piece) : Type 0 where
-  pub range : ClearsRange (sets_of from) (chunk_of from.geometry.zone_blocks p.what)
+  pub range : ClearsRange (sets_of from) (chunk_touched from.geometry.zone_blocks p.what)
       (first_of from.geometry.zone_blocks p.what) (end_of from.geometry.zone_blocks p.what) to.fresh
   pub dirty : MarksChanged from.fresh to.fresh from.dirty to.dirty
-  pub classes : GivesClass (chunk_of from.geometry.zone_blocks p.what)
+  pub classes : GivesClass (chunk_touched from.geometry.zone_blocks p.what)
       (class_in from.geometry from.pointers (tables_in from.geometry from.head.layout to.fresh)
-      (chunk_of from.geometry.zone_blocks p.what))
+      (chunk_touched from.geometry.zone_blocks p.what))
       from.standings.classes to.standings.classes
   pub rest : to ≡ after_drop from to.fresh to.dirty to.standings.classes
-      (entry_for p answers.Done from.since)
+      (answered p answers.Done from.since)

@@ -7,7 +7,7 @@ use Rattle.zd_model.specs.History.{HistoryEntry, IsFailedFlush}
 use Rattle.zd_model.specs.Plain.{Answer}
 use Rattle.zd_model.specs.Plain.Answer.{Fault}
 use Rattle.zd_model.specs.Requests.{Operation, operation_of}
-use Rattle.zd_model.specs.Requests.Operation.{Reading, Writing, Discarding, Flushing}
+use Rattle.zd_model.specs.Requests.Operation.{Reading, Writing, Flushing}
 
 -- such an operation was answered Fault
 abbrev pub has_fault : (Operation → Bool) → Operation → Answer → Bool
