@@ -6,9 +6,10 @@ use Rattle.zd_model.specs.History.{HistoryEntry}
 use Rattle.zd_model.specs.declared.requests.Piece.{Piece}
 use Rattle.zd_disk.specs.Told.{next_count}
 use Rattle.zd_disk.specs.View.{Made, Stays, View}
-use Rattle.zd_volume.specs.CommitCalls.{MakesPhaseCall}
+use Rattle.zd_volume.specs.CommitCalls.{MakesCommitCall, MakesPhaseCall}
 use Rattle.zd_volume.specs.Commits.{Advances, after_call, after_end, after_failed, calls_left, EndsCommit, EndsLimbo, IsLastCall, IsPhaseAfter, StopsCommit}
 use Rattle.zd_volume.specs.Volumes.{IsFixed, PlainVolume}
+use Rattle.zd_volume.specs.declared.phase.Committed.{Committed}
 use Rattle.zd_volume.specs.declared.phase.Phase.{Phase}
 use Rattle.zd_volume.specs.declared.phase.Phase.TheVariants.{Idle, Log, LogFlush, LogSuper, LogSuperFlush, InPlace, InPlaceFlush, InPlaceSuper, InPlaceSuperFlush}
 use Rattle.zd_volume.specs.Phases.{after_block}
@@ -94,6 +95,7 @@ module _ (from : PlainVolume) (u : View) where
               let less = fewer_left mid to fixed step in
               omega (arith, n, l, less);
         }
+
     -- THE LAST ONE
     pub committed : EndsCommit mid to [] → IsCommitted from to
     committed ends = record {
@@ -142,3 +144,11 @@ module _ (from : PlainVolume) (u : View) where
     stopped_for Why.Generation stops =
         subst (λ (m : PlainVolume). StopsCommit m to [] Why.Generation) (was.begun stops.0) stops
     stopped_for Why.Memory stops = absurd stops
+
+-- the disk stays in every step of a commit
+pub call_stays : (result : Committed) (v : PlainVolume) (d e : View) → MakesCommitCall result v d e → Stays d e
+call_stays Committed.More v d e call = (one_call v.phase v d e call).stays
+call_stays Committed.Ended v d e call = (one_call v.phase v d e call).stays
+call_stays (Committed.Stopped Why.Device) v d e call = (one_call v.phase v d e call).stays
+call_stays (Committed.Stopped Why.Memory) v d e call = (one_call v.phase v d e call).stays
+call_stays (Committed.Stopped Why.Generation) v d e call = call.0.stays

@@ -5,6 +5,8 @@ use Rattle.zd_base.specs.declared.numbers.Why.{Why}
 use Rattle.zd_alloc.specs.Zones.{Division, use_at}
 use Rattle.zd_disk.specs.View.{Stays, View}
 use Rattle.zd_alloc.specs.declared.uses.ZoneUse.TheVariants.{Limbo}
+use Rattle.zd_volume.specs.Abandons.{IsAbandoned}
+use Rattle.zd_volume.specs.declared.phase.Phase.{Phase}
 use Rattle.zd_volume.specs.Commits.{EndsLimbo, IsLastCall, after_call, calls_left}
 use Rattle.zd_volume.specs.Phases.{end_generation, with_generation}
 use Rattle.zd_volume.specs.Uses.{dirty_from}
@@ -50,3 +52,33 @@ pub record IsUnderWay (from to : PlainVolume) (u v : View) : Type 0 where
   pub stays : Stays u v
   pub left : v.calls < 2 ^ 64 - 1 →
       v.calls + calls_left to.dirty to.phase ≡ u.calls + calls_left from.dirty from.phase
+
+-- the commit that was under way has ended; where none was, nothing has changed
+abbrev pub Finishes : Phase → PlainVolume → PlainVolume → Type 0
+Finishes Idle from to = to ≡ from
+Finishes phase from to = IsCommitted from to
+
+-- how many calls that takes
+abbrev pub calls_to_finish : List Bool → Phase → ℕ
+calls_to_finish dirty Idle = 0
+calls_to_finish dirty phase = calls_left dirty phase
+
+-- how many calls closing takes: after a commit that was under way nothing is dirty, and one flush is left
+abbrev pub calls_to_close : List Bool → Phase → ℕ
+calls_to_close dirty Idle = calls_left dirty Idle
+calls_to_close dirty phase = calls_left dirty phase + 1
+
+-- Closing: a job under way was given up, a commit under way has ended, and then a whole commit was made.
+pub record IsClosed (from to : PlainVolume) : Type 0 where
+  pub left : PlainVolume
+  pub given_up : IsAbandoned from left
+  pub finished : PlainVolume
+  pub finishes : Finishes left.phase left finished
+  pub last : IsCommitted finished to
+
+-- closing that stopped: in the commit that was under way, or in the last one
+pub record StopsClosing (from to : PlainVolume) (why : Why) : Type 0 where
+  pub left : PlainVolume
+  pub given_up : IsAbandoned from left
+  pub stops : StopsCommitting left to why
+      ⊎ ((finished : PlainVolume) × Finishes left.phase left finished × StopsCommitting finished to why)

@@ -8,8 +8,10 @@
 //!   stop leaves what the disk reads as alone.
 #![tactic(auto)]
 
+mod closing;
 mod run;
 mod when;
 
+pub use closing::close;
 pub use run::{run_commit, step};
 pub use when::due;

@@ -40,6 +40,7 @@ pub fn run_commit<D: ZonedDisk>(v: &mut Volume<D>) -> Result<(), Why>
     ensures calls { OnOk result (Made (calls_left v.old.plain.dirty v.old.plain.phase)
         (D.view v.old.disk) (D.view v.new.disk)) }
     ensures err { IfErr result (StopsCommitting v.old.plain v.new.plain) }
+    ensures stays { Stays (D.view v.old.disk) (D.view v.new.disk) }
     ensures same { SameSession 0 v.old v.new }
     ensures cause { IfErr result (λ why. why ≡ Why.Device → HasFailed (D.view v.old.disk) (D.view v.new.disk)) }
 {

@@ -12,9 +12,9 @@ use Rattle.zd_read.specs.declared.run.Run.{Run}
 -- the zone of blocks that are read from this place of a chunk: the chunk's, or its buffer; none where
 -- they are zeros
 abbrev pub IsReadFrom : MapEntry → Option Place → Option ℕ → Type 0
-IsReadFrom e None zone = zone ≡ None
-IsReadFrom e (Some Main) zone = (zone ≢ None) × (zone ≡ e.zone)
-IsReadFrom e (Some Buffer) zone = (zone ≢ None) × (zone ≡ e.buffer)
+IsReadFrom e None from = from ≡ None
+IsReadFrom e (Some Main) from = (from ≢ None) × (from ≡ e.zone)
+IsReadFrom e (Some Buffer) from = (from ≢ None) × (from ≡ e.buffer)
 IsReadFrom e (Some NewMain) from = ⊥
 IsReadFrom e (Some NewBuffer) from = ⊥
 

@@ -194,7 +194,9 @@ impl<D: ZonedDisk> Volume<D> {
             Phase::InPlace(k) => self.put_block(true, k, flushes),
             Phase::InPlaceSuper => self.put_super(true, flushes),
             Phase::InPlaceSuperFlush => self.flush_last(false, flushes),
-            Phase::LogFlush | Phase::LogSuperFlush | Phase::InPlaceFlush => self.flush_inside(flushes),
+            Phase::LogFlush | Phase::LogSuperFlush | Phase::InPlaceFlush => self.flush_inside(
+                flushes,
+            ),
         }
     }
 }

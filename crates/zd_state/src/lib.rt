@@ -3,14 +3,14 @@
 
 mod classes;
 mod commit;
-mod entering;
 mod discards;
+mod entering;
 mod jobs;
 mod marks;
-mod start;
 mod place;
 mod readers;
 mod reading;
+mod start;
 mod state;
 mod volume;
 

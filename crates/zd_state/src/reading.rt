@@ -1,6 +1,7 @@
 //! Reads, one run of blocks a step.
 
-ghost use Rattle.std.specs.Prelude.{◌≡◌, ◌+◌, ◌*◌, ◌<◌, ◌≤◌, ◌++◌, length, take, Some, None, IfSome, IsSomeAnd, OnOk, OnErr};
+ghost use Rattle.std.specs.Prelude.{◌≡◌, ◌+◌, ◌*◌, ◌<◌, ◌≤◌, ◌++◌, length, take, Some, None};
+ghost use Rattle.std.specs.Prelude.{IfSome, IsSomeAnd, OnOk, OnErr};
 ghost use Rattle.zd_disk.specs.Told.{IsInside, WhereTold};
 ghost use Rattle.zd_disk.specs.View.{Fails, OnlyReads, ReadsOnce};
 ghost use Rattle.zd_model.specs.Image.{run_of};

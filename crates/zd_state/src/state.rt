@@ -118,7 +118,8 @@ impl VolumeState {
     /// A call inside a commit was made.
     pub(crate) fn advance(&mut self, phase: Phase)
         ensures { self.new ≡ record self.old {
-            plain = after_call self.old.plain phase (next_count self.old.plain.since) self.old.plain.stopped } }
+          plain = after_call self.old.plain phase (next_count self.old.plain.since) self.old.plain.stopped;
+        } }
     {
         self.phase = phase;
         self.since = self.since.saturating_add(1);

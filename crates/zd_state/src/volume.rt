@@ -1,10 +1,12 @@
 //! A volume over its disk.
 
-ghost use Rattle.std.specs.Prelude.{◌≡◌, ◌-◌, ◌<◌, ◌^◌};
+ghost use Rattle.std.specs.Prelude.{◌≡◌, ◌-◌, ◌<◌, ◌^◌, ℕ};
 ghost use Rattle.zd_disk.specs.Moments.{AtEach};
 ghost use Rattle.zd_disk.specs.Told.{WhereTold};
 ghost use Rattle.zd_model.specs.Safe.{IsSafe, base_at};
-ghost use Rattle.zd_volume.specs.Volumes.{IsFixed};
+ghost use Rattle.zd_model.specs.Image.{Image};
+ghost use Rattle.zd_volume.specs.FaultCounts.{CountsFaults};
+ghost use Rattle.zd_volume.specs.Volumes.{CountsCalls, IsFixed};
 
 use crate::state::VolumeState;
 use std::marker::Model;
@@ -38,11 +40,24 @@ impl<D: ZonedDisk> Model for Volume<D> {
 
 impl<D: ZonedDisk> Volume<D> {
     /// A stop at any moment since opening leaves a well-formed image, each sector of which has a value
-    /// that it may hold by the history.
+    /// that it may hold by the history. Of moments before opening's end no more is left than was then.
     pub fn safe(&self)
-        ensures { (D.view self.now.disk).calls < 2 ^ 64 - 1 → WhereTold (D.view self.now.disk).zones (λ _.
+        ensures safe { (D.view self.now.disk).calls < 2 ^ 64 - 1 → WhereTold (D.view self.now.disk).zones (λ _.
             AtEach (IsSafe (base_at (D.view self.now.opening).zones) self.now.plain.history)
             (D.view self.now.opening).calls (D.view self.now.disk).calls (D.view self.now.disk).left) }
+        ensures earlier { (D.view self.now.disk).calls < 2 ^ 64 - 1 → WhereTold (D.view self.now.disk).zones (λ _.
+            (k : ℕ) (i : Image) → k < (D.view self.now.opening).calls →
+            (D.view self.now.disk).left k i → (D.view self.now.opening).left k i) }
+    {
+        let _state = &self.state;
+    }
+
+    /// Each entry was made when no more writing calls had returned than now, and no more faults are told
+    /// than the disk had since opening; one more where it stopped the volume.
+    pub fn counts(&self)
+        ensures calls { CountsCalls self.now.plain (D.view self.now.opening).calls (D.view self.now.disk).calls }
+        ensures faults { CountsFaults self.now.plain.history self.now.plain.stopped
+            (D.view self.now.opening).faults (D.view self.now.disk).faults }
     {
         let _state = &self.state;
     }

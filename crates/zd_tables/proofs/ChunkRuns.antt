@@ -1,19 +1,21 @@
 -- Where the next blocks of a chunk stand, by the bitmaps of its zones.
-use Rattle.std.proofs.Common.{◌≡◌, ℕ, ◌+◌, ◌-◌, ◌*◌, ◌<◌, ◌≤◌, Bool, true, false, cond, List, Option, Some, None, refl, sym, ap, ◌∙◌, subst, inl, inr}
+use Rattle.std.proofs.Common.{◌≡◌, ℕ, ◌+◌, ◌-◌, ◌<◌, ◌≤◌, Bool, true, false, cond, List, Option, Some, None, refl}
+use Rattle.std.proofs.Common.{sym, ap, ◌∙◌, subst, inl, inr}
 use Rattle.std.specs.Prelude.{IsSomeAnd}
 use Rattle.zd_base.specs.Geometry.{Shape, zone_count}
 use Rattle.zd_base.specs.declared.layout.Layout.{Layout}
 use Rattle.zd_bits.specs.Bits.{IsBitRun}
 use Rattle.zd_model.specs.Places.{IsPlacedRun, place_in}
-use Rattle.zd_model.specs.Tables.{MapFollowsRules, NamesZone, Tables, entry_of}
+use Rattle.zd_model.specs.Tables.{MapFollowsRules, NamesZone, entry_of}
 use Rattle.zd_model.specs.declared.metadata.MapEntry.{MapEntry}
 use Rattle.zd_tables.specs.Tables.{bits_in_blocks, tables_in}
 use Rattle.zd_tables.proofs.RunPlaces.{buffer_run, empty_run, unnamed_run, zone_run}
 use Rattle.zd_tables.proofs.TableLaws.{valid_is}
 
-no_buffer : (o zone : Option ℕ) (P : ℕ → Type 0) → zone ≡ None → ((b : ℕ) → o ≡ Some b → IsSomeAnd zone P) → o ≡ None
-no_buffer None zone P none rule = refl
-no_buffer (Some b) zone P none rule = absurd (subst (λ (z : Option ℕ). IsSomeAnd z P) none (rule b refl))
+no_buffer : (o main : Option ℕ) (P : ℕ → Type 0) → main ≡ None → ((b : ℕ) → o ≡ Some b → IsSomeAnd main P)
+    → o ≡ None
+no_buffer None main P none rule = refl
+no_buffer (Some b) main P none rule = absurd (subst (λ (z : Option ℕ). IsSomeAnd z P) none (rule b refl))
 
 module _ (g : Shape) (l : Layout) (bytes : List ℕ) (rules : MapFollowsRules g l (tables_in g l bytes).entries)
     (chunk : ℕ) (e : MapEntry) (is : e ≡ entry_of (tables_in g l bytes) chunk) (at end : ℕ) where

@@ -100,6 +100,7 @@ kept_stopped v opening d was = record {
   reads = λ x. absurd (let f : ⊥ = cc in f);
   stops = λ x. absurd (let f : ⊥ = cc in f);
   safe = was.safe;
+  earlier = was.earlier;
 }
 
 -- the phase of a volume that the disk has stopped says nothing
@@ -132,4 +133,5 @@ kept_unphased v p why opening d idle halted was = record {
   reads = λ runs. absurd (let no : None ≡ Some why = sym runs ∙ halted in let f : ⊥ = cc in f);
   stops = λ runs. absurd (let no : None ≡ Some why = sym runs ∙ halted in let f : ⊥ = cc in f);
   safe = was.safe;
+  earlier = was.earlier;
 }

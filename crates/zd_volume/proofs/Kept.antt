@@ -127,6 +127,11 @@ module _ (v w : PlainVolume) (opening u x : View) (step : Image → Image → Im
         (leads.before r.0 i c more (known r.0 i c was_small r.1 could s.1) s.0 r.1))
         (λ i c could _ s l. subst (λ (m : ℕ). IsSafe base w.history m c) (sym then_is)
         (leads.after r.0 i c more (known r.0 i c was_small r.1 could s.1) s.0 r.1 small l));
+    earlier = λ small j there k i before l.
+        let a = did.calls in
+        let r = did.from j there in
+        let later = was.counted.later in
+        was.earlier (omega arith) r.0 r.1 k i before ((grown r.0 small r.1).only k i (omega arith) l);
   }
 
 -- what a call of the disk makes of a volume, where it was told before what it read as

@@ -135,4 +135,5 @@ module _ (g : Shape) (head : Super) (bytes : List ℕ) (dirty : List Bool) (divi
           (at_told r t (λ b. IsSafe b [] 0 c)
           (safe_of s Idle (base_of r) [] 0 c fixed.sets (of_left c here)
           (base_size s fixed.sets r (of_reads r t) (opens.reads r t)) (λ x. absurd x) (left r c t small here)));
+      earlier = λ small r t k i before l. l;
     }

@@ -83,6 +83,9 @@ kept_still v w opening u x same io was leads = record {
       opening.calls u.calls u.left x.left io.left
       (λ k i _ s. safe_more (base_at opening.zones) v.history w.history k k i (λ n y m. leads.more k n y m) s)
       (was.safe (omega arith) r (sym io.zones ∙ there)));
+  earlier = λ small r there k i before l.
+      let n = io.calls in
+      was.earlier (omega arith) r (sym io.zones ∙ there) k i before (io.left.only k i l);
 }
 
 -- A STEP THAT CHANGES NOTHING of the volume's values, but reads

@@ -104,6 +104,9 @@ pub record IsKeptVolume (v : PlainVolume) (opening now : View) : Type 0 where
       (i : Image) → now.left now.calls i → MayBe v (base_at opening.zones) i)
   pub safe : now.calls < 2 ^ 64 - 1 → WhereTold now.zones (λ _.
       AtEach (IsSafe (base_at opening.zones) v.history) opening.calls now.calls now.left)
+  -- of moments before opening's end no more is left than then
+  pub earlier : now.calls < 2 ^ 64 - 1 → WhereTold now.zones (λ _.
+      (k : ℕ) (i : Image) → k < opening.calls → now.left k i → opening.left k i)
 
 -- a writing call of the disk, and what stays of the volume: `step` leads from what the disk read as,
 -- and an image that a stop might leave, to one that it may leave then

@@ -11,8 +11,7 @@ loop-why-smaller g c =
 pub loop-why-preserved : goal.loop-why-preserved
 loop-why-preserved g c =
     let was = c.loop-why.invariant in
-    let step = c.in-More.ensures.step in
-    (
+    let step = c.in-More.ensures.step in (
       ap (λ (v : PlainVolume). v.stopped) step.rest ∙ was.0,
       goes_on c.args.v.now.plain (g.D.ZonedDisk.view c.args.v.now.disk) c.loop-why.v.plain c.commit_one.new.self.plain
           (g.D.ZonedDisk.view c.loop-why.v.disk) (g.D.ZonedDisk.view c.commit_one.new.self.disk) was.1 c.sound.ensures

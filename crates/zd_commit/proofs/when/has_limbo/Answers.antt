@@ -8,8 +8,7 @@ returns-then-limbo-gt0 c =
 
 pub returns-else-limbo-gt0 : goal.returns-else-limbo-gt0
 returns-else-limbo-gt0 c =
-    let n = c.limbo-else-limbo-gt0 in
-    (
+    let n = c.limbo-else-limbo-gt0 in (
       (λ is. second_limbo c.args.alloc.now n.result n.ensures is),
       λ has. limbo_last c.args.alloc.now c.limbo.result n.result c.limbo.ensures n.ensures c.if-limbo-gt0.false has,
     )

@@ -1,4 +1,4 @@
-use Rattle.std.proofs.Common.{◌≡◌, ◌+◌, ◌/◌, ◌%◌, ◌<◌, ◌≤◌, ℕ, Some, sym, ◌∙◌, arith}
+use Rattle.std.proofs.Common.{◌/◌, ◌%◌, ◌∙◌, arith}
 use Rattle.zd_read.proofs.RunLaws.{names_place}
 use Rattle.zd_read.proofs.run.run_of.Goals as goal
 

@@ -1,4 +1,4 @@
-use Rattle.std.proofs.Common.{◌≡◌, ◌∙◌, sym, ap, arith}
+use Rattle.std.proofs.Common.{arith}
 use Rattle.zd_volume.proofs.CallsLeft.{dirty_more, dirty_less}
 use Rattle.zd_state.proofs.marks.count_dirty.Goals as goal
 use Rattle.zd_state.proofs.marks.count_dirty.Goals.{then-dirty-i, else-dirty-i}

@@ -1,4 +1,5 @@
-use Rattle.std.proofs.Common.{◌≡◌, ◌+◌, ◌-◌, ◌*◌, ◌/◌, ◌≤◌, ◌<◌, ◌++◌, ℕ, List, length, Option, Some, None, IsSomeAnd, Result, Ok, Err, OnErr, refl, sym, ap, ◌∙◌, subst, arith}
+use Rattle.std.proofs.Common.{◌≡◌, ◌+◌, ◌-◌, ◌++◌, ℕ, List, length, Option, IsSomeAnd, Result, Ok, Err, OnErr, refl}
+use Rattle.std.proofs.Common.{sym, ap, ◌∙◌, subst, arith}
 use Rattle.zd_base.specs.Geometry.{Shape}
 use Rattle.zd_base.specs.Layout.{rounded_up}
 use Rattle.zd_disk.specs.Told.{IsInside}
@@ -25,13 +26,19 @@ read_behind-requires-clause-inside g c =
     let told = (g.D.ZonedDisk.view c.args.disk.now).zones in
     let next = c.next_of-chunk.ensures.next in
     let ends = c.next_of-chunk.ensures.end in
-    let bound : c.div_ceil.result ≡ rounded_up (end_sector c.args.state.now.plain c.args.flight.now) 8 = omega (arith, ends) in
+    let bound : c.div_ceil.result ≡ rounded_up (end_sector c.args.state.now.plain c.args.flight.now) 8 = omega
+    (arith, ends) in
     let run = rw (c.next_of-chunk.ensures.chunk, next, bound) at c.run_at-place.ensures in
-    let stop : c.min-stop.result ≡ stop_sector c.args.state.now.plain c.args.flight.now c.run_at-place.result.1 = omega (arith, next, ends) in
-    let low = zone_is v c.requires.sets told f c.requires.flight c.run_at-place.result.0 c.run_at-place.result.1 run c.in-Some.zone c.in-Some.is in
-    let high = stop_inside v c.requires.sets told f c.requires.flight c.run_at-place.result.0 c.run_at-place.result.1 run in
-    let some = some_sectors v c.requires.sets told f c.requires.flight c.run_at-place.result.0 c.run_at-place.result.1 run in
-    subst (λ (o : Option Shape). IsSomeAnd o (IsInside c.in-Some.zone c.next_of-chunk.result.1 (c.min-stop.result - c.next_of-chunk.result.1)))
+    let stop : c.min-stop.result ≡ stop_sector c.args.state.now.plain c.args.flight.now c.run_at-place.result.1 =
+    omega (arith, next, ends) in
+    let low = zone_is v c.requires.sets told f c.requires.flight c.run_at-place.result.0 c.run_at-place.result.1 run
+    c.in-Some.zone c.in-Some.is in
+    let high = stop_inside v c.requires.sets told f c.requires.flight c.run_at-place.result.0 c.run_at-place.result.1
+    run in
+    let some = some_sectors v c.requires.sets told f c.requires.flight c.run_at-place.result.0
+    c.run_at-place.result.1 run in
+    subst (λ (o : Option Shape). IsSomeAnd o (IsInside c.in-Some.zone c.next_of-chunk.result.1
+    (c.min-stop.result - c.next_of-chunk.result.1)))
     (sym c.requires.told) (low, omega (arith, high, some, stop, next))
 
 pub read_behind-requires-clause-below : goal.read_behind-requires-clause-below
@@ -41,10 +48,13 @@ read_behind-requires-clause-below g c =
     let told = (g.D.ZonedDisk.view c.args.disk.now).zones in
     let next = c.next_of-chunk.ensures.next in
     let ends = c.next_of-chunk.ensures.end in
-    let bound : c.div_ceil.result ≡ rounded_up (end_sector c.args.state.now.plain c.args.flight.now) 8 = omega (arith, ends) in
+    let bound : c.div_ceil.result ≡ rounded_up (end_sector c.args.state.now.plain c.args.flight.now) 8 = omega
+    (arith, ends) in
     let run = rw (c.next_of-chunk.ensures.chunk, next, bound) at c.run_at-place.ensures in
-    let stop : c.min-stop.result ≡ stop_sector c.args.state.now.plain c.args.flight.now c.run_at-place.result.1 = omega (arith, next, ends) in
-    let some = some_sectors v c.requires.sets told f c.requires.flight c.run_at-place.result.0 c.run_at-place.result.1 run in
+    let stop : c.min-stop.result ≡ stop_sector c.args.state.now.plain c.args.flight.now c.run_at-place.result.1 =
+    omega (arith, next, ends) in
+    let some = some_sectors v c.requires.sets told f c.requires.flight c.run_at-place.result.0
+    c.run_at-place.result.1 run in
     IfSome-each (g.D.ZonedDisk.view c.args.disk.now).zones _
     (λ i there.
     let is = read_as {v = g.D.ZonedDisk.view c.args.disk.now} c.requires.told i there in
@@ -59,12 +69,14 @@ returns-in_err-read_behind-clause-err g c =
     let told = (g.D.ZonedDisk.view c.args.disk.now).zones in
     let next = c.next_of-chunk.ensures.next in
     let ends = c.next_of-chunk.ensures.end in
-    let bound : c.div_ceil.result ≡ rounded_up (end_sector c.args.state.now.plain c.args.flight.now) 8 = omega (arith, ends) in
+    let bound : c.div_ceil.result ≡ rounded_up (end_sector c.args.state.now.plain c.args.flight.now) 8 = omega
+    (arith, ends) in
     let run = rw (c.next_of-chunk.ensures.chunk, next, bound) at c.run_at-place.ensures in
     on_err c.from_residual.result _ (record {
       zone = c.in-Some.zone;
       count = c.run_at-place.result.1;
-      run = subst (λ (o : Option ℕ). IsRunOfRead c.args.state.now.plain c.args.flight.now o c.run_at-place.result.1) c.in-Some.is
+      run = subst (λ (o : Option ℕ). IsRunOfRead c.args.state.now.plain c.args.flight.now o c.run_at-place.result.1)
+          c.in-Some.is
           (run_is v c.requires.sets told f c.requires.flight c.run_at-place.result.0 c.run_at-place.result.1 run);
       calls = c.read_behind.ensures.read_calls;
       failed = c.in_err-read_behind.ensures.cause;
@@ -79,10 +91,12 @@ returns-clause-ok g c =
     let told = (g.D.ZonedDisk.view c.args.disk.now).zones in
     let next = c.next_of-chunk.ensures.next in
     let ends = c.next_of-chunk.ensures.end in
-    let bound : c.div_ceil.result ≡ rounded_up (end_sector c.args.state.now.plain c.args.flight.now) 8 = omega (arith, ends) in
+    let bound : c.div_ceil.result ≡ rounded_up (end_sector c.args.state.now.plain c.args.flight.now) 8 = omega
+    (arith, ends) in
     let run = rw (c.next_of-chunk.ensures.chunk, next, bound) at c.run_at-place.ensures in
     let count : ℕ = c.run_at-place.result.1 in
-    let stop : c.min-stop.result ≡ stop_sector c.args.state.now.plain c.args.flight.now c.run_at-place.result.1 = omega (arith, next, ends) in
+    let stop : c.min-stop.result ≡ stop_sector c.args.state.now.plain c.args.flight.now c.run_at-place.result.1 =
+    omega (arith, next, ends) in
     elim c.match-place.branch [
       | in-Some+in_ok-read_behind w ↦ (
           let value = rw (stop, next) at w.in_ok-read_behind.ensures.value in
@@ -91,17 +105,21 @@ returns-clause-ok g c =
           rw (w.flight-is, w.disk-is)
           (reads_run v c.requires.sets told f c.requires.flight c.run_at-place.result.0 c.run_at-place.result.1 run
           u (g.D.ZonedDisk.view w.read_behind.new.disk) refl
-          (subst (λ (o : Option ℕ). ReadsAt o (g.D.ZonedDisk.view c.args.disk.now) (g.D.ZonedDisk.view w.read_behind.new.disk))
+          (subst (λ (o : Option ℕ). ReadsAt o (g.D.ZonedDisk.view c.args.disk.now)
+          (g.D.ZonedDisk.view w.read_behind.new.disk))
           (sym w.in-Some.is) w.read_behind.ensures.read_calls)
           w.read_behind.new.into size room
           (λ i there. IfSome-at _ i _ there value
-          ∙ ap (λ (o : Option ℕ). c.args.flight.now.bytes.items ++ run_of (sector_in o i) (next_sector c.args.state.now.plain c.args.flight.now)
-          (stop_sector c.args.state.now.plain c.args.flight.now c.run_at-place.result.1 - next_sector c.args.state.now.plain c.args.flight.now))
+          ∙ ap (λ (o : Option ℕ). c.args.flight.now.bytes.items ++ run_of (sector_in o i)
+          (next_sector c.args.state.now.plain c.args.flight.now)
+          (stop_sector c.args.state.now.plain c.args.flight.now c.run_at-place.result.1 - next_sector
+          c.args.state.now.plain c.args.flight.now))
           (sym w.in-Some.is))))
       | in_default w ↦ (
           let items = rw (stop, next) at w.add_zeros.ensures.items in
           let room = rw (stop, next) at w.add_zeros.ensures.room_left in
-          let m : ℕ = stop_sector c.args.state.now.plain c.args.flight.now c.run_at-place.result.1 - next_sector c.args.state.now.plain c.args.flight.now in
+          let m : ℕ = stop_sector c.args.state.now.plain c.args.flight.now c.run_at-place.result.1 - next_sector
+          c.args.state.now.plain c.args.flight.now in
           rw (w.flight-is, w.disk-is)
           (reads_run v c.requires.sets told f c.requires.flight c.run_at-place.result.0 c.run_at-place.result.1 run
           u u refl
@@ -114,8 +132,10 @@ returns-clause-ok g c =
           (λ i there. items
           ∙ ap (λ (xs : List ℕ). c.args.flight.now.bytes.items ++ xs)
           (sym (zero_joined (next_sector c.args.state.now.plain c.args.flight.now) m))
-          ∙ ap (λ (o : Option ℕ). c.args.flight.now.bytes.items ++ run_of (sector_in o i) (next_sector c.args.state.now.plain c.args.flight.now)
-          (stop_sector c.args.state.now.plain c.args.flight.now c.run_at-place.result.1 - next_sector c.args.state.now.plain c.args.flight.now))
+          ∙ ap (λ (o : Option ℕ). c.args.flight.now.bytes.items ++ run_of (sector_in o i)
+          (next_sector c.args.state.now.plain c.args.flight.now)
+          (stop_sector c.args.state.now.plain c.args.flight.now c.run_at-place.result.1 - next_sector
+          c.args.state.now.plain c.args.flight.now))
           (sym w.in_default.is))))
     ]
 

@@ -1,4 +1,4 @@
-use Rattle.std.proofs.Common.{◌≡◌, ◌∙◌, ℕ, Bool, cond, Option, Some, None, sym, ap, subst}
+use Rattle.std.proofs.Common.{◌∙◌, ℕ, Bool, cond, Option, Some, None, sym, ap, subst}
 use Rattle.zd_model.specs.Places.{IsPlacedRun, place_in}
 use Rattle.zd_model.specs.Tables.{entry_of}
 use Rattle.zd_tables.specs.Tables.{tables_in}
@@ -11,7 +11,8 @@ returns-in_default c =
     let i = c.self.inside in
     let rules = rw (← c.self.view_is) at c.requires.rules in
     let entry = rw c.self.invariant at c.entry-entry.ensures in
-    rw (← c.self.view_is) (run_unnamed i.tables.geometry i.head.layout i.tables.bytes rules c.args.chunk c.entry-entry.result entry
+    rw (← c.self.view_is) (run_unnamed i.tables.geometry i.head.layout i.tables.bytes rules c.args.chunk
+    c.entry-entry.result entry
     c.args.at c.args.end c.in_default.is c.requires.some)
 
 pub run_at-valid-requires-clause-zone : goal.run_at-valid-requires-clause-zone
@@ -28,8 +29,10 @@ returns-then-valid c =
     let rules = rw (← c.self.view_is) at c.requires.rules in
     let entry = rw c.self.invariant at c.entry-entry.ensures in
     let run = rw c.self.invariant at c.run_at-valid.ensures in
-    rw (← c.self.view_is) (run_zone i.tables.geometry i.head.layout i.tables.bytes rules c.args.chunk c.entry-entry.result entry
-    c.args.at c.args.end c.in-Some.zone c.in-Some.is c.run_at-valid.result.0 c.run_at-valid.result.1 run c.if-valid.true)
+    rw (← c.self.view_is) (run_zone i.tables.geometry i.head.layout i.tables.bytes rules c.args.chunk
+    c.entry-entry.result entry
+    c.args.at c.args.end c.in-Some.zone c.in-Some.is c.run_at-valid.result.0 c.run_at-valid.result.1 run
+    c.if-valid.true)
 
 pub returns-in_default-buffer : goal.returns-in_default-buffer
 returns-in_default-buffer c =
@@ -37,8 +40,10 @@ returns-in_default-buffer c =
     let rules = rw (← c.self.view_is) at c.requires.rules in
     let entry = rw c.self.invariant at c.entry-entry.ensures in
     let run = rw c.self.invariant at c.run_at-valid.ensures in
-    rw (← c.self.view_is) (run_alone i.tables.geometry i.head.layout i.tables.bytes rules c.args.chunk c.entry-entry.result entry
-    c.args.at c.args.end c.in-Some.zone c.in-Some.is c.run_at-valid.result.0 c.run_at-valid.result.1 run c.if-valid.false
+    rw (← c.self.view_is) (run_alone i.tables.geometry i.head.layout i.tables.bytes rules c.args.chunk
+    c.entry-entry.result entry
+    c.args.at c.args.end c.in-Some.zone c.in-Some.is c.run_at-valid.result.0 c.run_at-valid.result.1 run
+    c.if-valid.false
     c.in_default-buffer.is)
 
 pub run_at-valid-requires-2-clause-zone : goal.run_at-valid-requires-2-clause-zone
@@ -58,9 +63,11 @@ returns c =
     let inner = rw c.self.invariant at c.run_at-valid-2.ensures in
     let buffer : ℕ = c.in-Some-buffer.buffer in
     let all = run_buffered i.tables.geometry i.head.layout i.tables.bytes rules c.args.chunk c.entry-entry.result entry
-    c.args.at c.args.end c.in-Some.zone c.in-Some.is c.run_at-valid.result.0 c.run_at-valid.result.1 run c.if-valid.false
+    c.args.at c.args.end c.in-Some.zone c.in-Some.is c.run_at-valid.result.0 c.run_at-valid.result.1 run
+    c.if-valid.false
     c.in-Some-buffer.buffer c.in-Some-buffer.is c.run_at-valid-2.result.0 c.run_at-valid-2.result.1 inner in
-    rw (← c.self.view_is) (subst (λ (zone : Option ℕ). IsPlacedRun (place_in (tables_in i.tables.geometry i.head.layout i.tables.bytes)
+    rw (← c.self.view_is) (subst (λ (zone : Option ℕ). IsPlacedRun
+    (place_in (tables_in i.tables.geometry i.head.layout i.tables.bytes)
     (entry_of (tables_in i.tables.geometry i.head.layout i.tables.bytes) c.args.chunk)) c.args.at c.args.end zone
     c.run_at-valid-2.result.1)
     (elim c.if-valid-2.branch [

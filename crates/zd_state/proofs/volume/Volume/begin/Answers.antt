@@ -29,8 +29,7 @@ invariant_of-self g c =
 
 pub returns-then-is_last_generation-clause-step : goal.returns-then-is_last_generation-clause-step
 returns-then-is_last_generation-clause-step g c =
-    let v = c.self.inside.state.plain in
-    (
+    let v = c.self.inside.state.plain in (
       c.requires.phase,
       rw (← c.self.view_is) (some_dirty v.dirty c.in-Some.k c.in-Some.ensures),
       rw (← c.self.view_is) (c.if-is_last_generation.ensures.0 refl),
@@ -45,9 +44,12 @@ pub put_block-requires-clause-due : goal.put_block-requires-clause-due
 put_block-requires-clause-due g c =
     let v = c.self.inside.state.plain in
     rw (← c.self.view_is)
-    (inr (rw (← c.self.view_is) at c.requires.phase, c.in-Some.ensures,
-    generation_left v c.self.invariant.fixed
-    (λ last. (let no = c.if-is_last_generation.ensures.1 last in let f : ⊥ = cc in f))))
+    (inr (
+      rw (← c.self.view_is) at c.requires.phase,
+      c.in-Some.ensures,
+      generation_left v c.self.invariant.fixed
+          (λ last. (let no = c.if-is_last_generation.ensures.1 last in let f : ⊥ = cc in f)),
+    ))
 
 pub returns-clause-call : goal.returns-clause-call
 returns-clause-call g c =

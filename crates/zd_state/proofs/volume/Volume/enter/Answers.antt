@@ -1,4 +1,3 @@
-use Rattle.zd_model.specs.Plain.Answer.{Range}
 use Rattle.zd_volume.proofs.EntryKeeps.{kept_range}
 use Rattle.zd_volume.proofs.Still.{only_nothing}
 use Rattle.zd_volume.specs.Volumes.{IsKeptVolume, PlainVolume}

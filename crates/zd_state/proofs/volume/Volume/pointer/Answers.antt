@@ -1,4 +1,4 @@
-use Rattle.std.proofs.Common.{◌≡◌, ◌∙◌, sym, ap}
+use Rattle.std.proofs.Common.{◌∙◌}
 use Rattle.zd_volume.proofs.ServesLaws.{pointer_held}
 use Rattle.zd_state.proofs.volume.Volume.pointer.Goals as goal
 

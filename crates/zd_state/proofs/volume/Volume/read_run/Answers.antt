@@ -1,9 +1,9 @@
-use Rattle.std.proofs.Common.{◌≡◌, ◌+◌, ◌-◌, ◌≤◌, ◌<◌, ℕ, List, ap₂, inl, inr, refl, sym, ap, ◌∙◌, subst, arith}
+use Rattle.std.proofs.Common.{◌-◌, ℕ, List, ap₂, inl, inr, refl, sym, ap, ◌∙◌, subst, arith}
 use Rattle.zd_disk.proofs.ToldLaws.{OnErr-at, OnOk-at}
 use Rattle.zd_model.specs.Plain.Answer.{Fault, Got}
 use Rattle.zd_model.specs.Room.{ListWithRoom}
 use Rattle.zd_model.specs.declared.requests.Piece.{Piece}
-use Rattle.zd_volume.specs.Flights.{FailsRun, ReadsRun, with_entry}
+use Rattle.zd_volume.specs.Flights.{with_entry}
 use Rattle.zd_volume.specs.Volumes.{IsKeptVolume, PlainVolume}
 use Rattle.zd_volume.proofs.EntryKeeps.{kept_fault, kept_got}
 use Rattle.zd_volume.proofs.ReadEnds.{ends_read, goes_on, reply_all}
@@ -47,7 +47,8 @@ returns-then-is_err-clause-step g c =
 
 pub invariant_of-self-then-flight-blocks : goal.invariant_of-self-then-flight-blocks
 invariant_of-self-then-flight-blocks g c =
-    kept_read c.self.inside.state.plain (g.D.ZonedDisk.view c.self.inside.opening.value) (g.D.ZonedDisk.view c.self.inside.disk)
+    kept_read c.self.inside.state.plain (g.D.ZonedDisk.view c.self.inside.opening.value)
+    (g.D.ZonedDisk.view c.self.inside.disk)
     (g.D.ZonedDisk.view c.read_next.new.disk) c.read_next.ensures.reads c.self.invariant
 
 pub returns-then-flight-blocks-clause-step : goal.returns-then-flight-blocks-clause-step
@@ -95,7 +96,12 @@ returns-clause-step g c =
     rw (← c.self.view_is) (inl
     (ends_read v (g.D.ZonedDisk.view c.self.inside.disk) (g.D.ZonedDisk.view c.read_next.new.disk)
     c.args.flight.now c.read_next.new.flight is read (omega (arith, last, blocks)) c.enter-2.new.self.plain
-    (record { piece = c.read_next.new.flight.piece; done = c.read_next.new.flight.done; bytes = c.replace-bytes.new.dest })
+    (record {
+      piece = c.read_next.new.flight.piece;
+      done = c.read_next.new.flight.done;
+      bytes =
+          c.replace-bytes.new.dest;
+    })
     (c.enter-2.ensures.plain
     ∙ ap₂ (λ (p : Piece) (xs : List ℕ). with_entry c.self.inside.state.plain p (Got xs)) read.piece bytes)
     read.piece given))

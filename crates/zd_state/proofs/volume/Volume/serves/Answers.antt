@@ -1,4 +1,3 @@
-use Rattle.std.proofs.Common.{◌≡◌, ◌∙◌, sym, ap}
 use Rattle.zd_volume.proofs.ServesLaws.{serves_last}
 use Rattle.zd_state.proofs.volume.Volume.serves.Goals as goal
 
