@@ -16,6 +16,7 @@ const VOLUME: [u8; 16] = [0, 0, 0, 0, 0, 0, 0x40, 0, 0x80, 0, 0, 0, 0, 0, 0, 1];
 
 /// The map's block in a set, and the first of those of the bitmaps: one for each zone.
 const MAP: u32 = 1;
+
 const BITMAPS: u32 = 2;
 
 /// Writes bytes into a block, from byte `at` on.

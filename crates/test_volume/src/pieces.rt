@@ -6,6 +6,7 @@ use zd_base::BLOCK;
 use zd_memdisk::MemDisk;
 use zd_model::{Bytes, Piece, Reply, What};
 use zd_open::open_volume;
+use zd_read::step;
 use zd_state::{Flight, Ran, Volume};
 
 /// Opens the volume on a disk, with room for 8 entries.
@@ -17,7 +18,7 @@ pub fn open(rt: &impl AllocGlobal, disk: MemDisk) -> Result<Volume<MemDisk>, Fai
     Ok(volume)
 }
 
-/// The first piece of a caller's only request.
+/// The only piece of a caller's first request.
 pub fn piece(what: What) -> Piece {
     Piece {
         caller: 0,
@@ -28,29 +29,50 @@ pub fn piece(what: What) -> Piece {
     }
 }
 
-/// Reads blocks of chunk 0, and answers their bytes and how many runs they were.
-pub fn read(
+/// A read of blocks of chunk 0, of which none is read yet.
+pub fn flight(
+    rt: &(impl Abort + AllocGlobal),
+    volume: &Volume<MemDisk>,
+    block: u32,
+    count: u32,
+) -> Result<Flight, Fail> {
+    let zone_blocks = volume.geometry().zone_blocks();
+    assert!(rt; block < zone_blocks && 0 < count && count <= zone_blocks - block);
+    assert!(rt; 0 < volume.layout().chunks);
+    let piece = piece(What::Read {
+        block: u64::from(block),
+        count,
+    });
+    let bytes = Bytes::with_room(rt.alloc(), BLOCK * count as usize)
+        .ok()
+        .ok_or("room")?;
+    Ok(Flight {
+        piece,
+        done: 0,
+        bytes,
+    })
+}
+
+/// The bytes of the read that was entered last.
+pub fn bytes_read<'a>(rt: &impl Abort, volume: &'a Volume<MemDisk>) -> Result<&'a [u8], Fail> {
+    let history = volume.history();
+    assert!(rt; !history.is_empty());
+    match &history.get(history.len() - 1).reply {
+        Reply::Got(bytes) => Ok(bytes.bytes()),
+        _ => Err(Fail::from("no bytes")),
+    }
+}
+
+/// Asserts that a block of chunk 0 is read by one run, as these bytes.
+pub fn expect_block(
     rt: &(impl Abort + AllocGlobal),
     volume: &mut Volume<MemDisk>,
     block: u32,
-    count: u32,
-) -> Result<(Vec<u8>, u32), Fail> {
-    let mut flight = Flight {
-        piece: piece(What::Read {
-            block: u64::from(block),
-            count,
-        }),
-        done: 0,
-        bytes: Bytes::with_room(rt.alloc(), BLOCK * count as usize).ok().ok_or("room")?,
-    };
-    let mut runs = 1;
-    while volume.read_run(&mut flight) == Ran::More {
-        runs += 1;
-    }
-    let history = volume.history();
-    assert!(rt; !history.is_empty());
-    let Reply::Got(bytes) = &history.get(history.len() - 1).reply else {
-        return Err(Fail::from("no bytes"));
-    };
-    Ok((bytes.bytes().to_vec(rt.alloc())?, runs))
+    bytes: &[u8; BLOCK],
+) -> Result<(), Fail> {
+    assert!(rt; volume.stopped().is_none() && 0 < volume.spare());
+    let mut flight = flight(rt, volume, block, 1)?;
+    assert!(rt; step(volume, &mut flight) == Ran::Entered);
+    assert!(rt; bytes_read(rt, volume)? == bytes.as_slice());
+    Ok(())
 }
