@@ -2,7 +2,7 @@
 //!
 //! # What is proved
 //!
-//! - `due` says exactly whether a commit is due (scope 3.3).
+//! - `due` says exactly whether a commit is due.
 //! - `step` makes the next call of a commit, exactly one, and none at the last generation.
 //! - A whole commit makes `2 d + 6` writing calls with d dirty blocks, and one with none; with its end a
 //!   stop leaves what the disk reads as alone.
