@@ -1,20 +1,19 @@
 -- A whole commit: its steps add up.
-use Rattle.std.proofs.Common.{◌≡◌, ◌≢◌, ℕ, ◌+◌, ◌-◌, ◌*◌, ◌^◌, ◌<◌, ◌≤◌, Bool, true, false, List, [], ◌++◌, length, replicate, Option, Some, None, inl, inr, refl, sym, ap, ap₂, ◌∙◌, subst, arith}
+use Rattle.std.proofs.Common.{◌≡◌, ℕ, ◌+◌, Bool, true, false, List, [], length, replicate, Option, Some, None, inl, inr, refl, sym, ap, ap₂, ◌∙◌, subst, arith}
 use Rattle.std.proofs.lemmas.List.{append-nil}
 use Rattle.zd_base.specs.declared.numbers.Why.{Why}
 use Rattle.zd_model.specs.History.{HistoryEntry}
-use Rattle.zd_model.specs.declared.requests.Piece.{Piece}
 use Rattle.zd_disk.specs.Told.{next_count}
 use Rattle.zd_disk.specs.View.{Made, Stays, View}
 use Rattle.zd_volume.specs.CommitCalls.{MakesCommitCall, MakesPhaseCall}
-use Rattle.zd_volume.specs.Commits.{Advances, after_call, after_end, after_failed, calls_left, EndsCommit, EndsLimbo, IsLastCall, IsPhaseAfter, StopsCommit}
+use Rattle.zd_volume.specs.Commits.{Advances, after_phase, after_end, after_failed, calls_left, EndsCommit, EndsLimbo, IsLastCall, IsPhaseAfter, StopsCommit}
 use Rattle.zd_volume.specs.Volumes.{IsFixed, PlainVolume}
 use Rattle.zd_volume.specs.declared.phase.Committed.{Committed}
 use Rattle.zd_volume.specs.declared.phase.Phase.{Phase}
 use Rattle.zd_volume.specs.declared.phase.Phase.TheVariants.{Idle, Log, LogFlush, LogSuper, LogSuperFlush, InPlace, InPlaceFlush, InPlaceSuper, InPlaceSuperFlush}
 use Rattle.zd_volume.specs.Phases.{after_block}
 use Rattle.zd_volume.proofs.CallsLeft.{last_call, one_less}
-use Rattle.zd_commit.specs.Closed.{IsCommitted, IsUnderWay, StopsCommitting}
+use Rattle.zd_commit.specs.Closed.{IsCommitted, IsInCommit, StopsCommitting}
 
 -- each call of a commit is one writing call
 pub record OneCall (d e : View) : Type 0 where
@@ -59,7 +58,7 @@ fewer_left mid to fixed step =
     ∙ one_less mid.dirty mid.phase to.phase mid.head.generation fixed.under_way step.phase
 
 module _ (from : PlainVolume) (u : View) where
-  pub under_way : IsUnderWay from from u u
+  pub under_way : IsInCommit from from u u
   under_way = record {
     rest = refl;
     begun = λ _. refl;
@@ -67,7 +66,7 @@ module _ (from : PlainVolume) (u : View) where
     left = λ small. refl;
   }
 
-  module _ (mid to : PlainVolume) (v w : View) (was : IsUnderWay from mid u v) where
+  module _ (mid to : PlainVolume) (v w : View) (was : IsInCommit from mid u v) where
     stays_on : OneCall v w → Stays u w
     stays_on call =
         let a = was.stays in
@@ -79,13 +78,13 @@ module _ (from : PlainVolume) (u : View) where
         }
 
     -- A CALL MORE
-    pub goes_on : IsFixed mid → Advances mid to → MakesPhaseCall mid.phase mid v w → IsUnderWay from to u w
+    pub goes_on : IsFixed mid → Advances mid to → MakesPhaseCall mid.phase mid v w → IsInCommit from to u w
     goes_on fixed step call =
         let one = one_call mid.phase mid v w call in
         record {
           rest = step.rest
-              ∙ ap (λ (m : PlainVolume). after_call m to.phase (next_count mid.since) m.stopped) was.rest
-              ∙ ap (λ (n : ℕ). after_call from to.phase n from.stopped)
+              ∙ ap (λ (m : PlainVolume). after_phase m to.phase (next_count mid.since) m.stopped) was.rest
+              ∙ ap (λ (n : ℕ). after_phase from to.phase n from.stopped)
               (sym (ap (λ (m : PlainVolume). m.since) step.rest));
           begun = λ idle. absurd (runs_on mid.dirty mid.phase to.phase step.phase idle);
           stays = stays_on one;

@@ -1,13 +1,13 @@
 -- What a whole commit, and the closing of a volume, make of it.
-use Rattle.std.specs.Prelude.{◌≡◌, ◌≢◌, ◌⊎◌, ◌↔◌, ℕ, ◌+◌, ◌-◌, ◌*◌, ◌^◌, ◌<◌, ◌≤◌, Bool, true, false}
-use Rattle.std.specs.Prelude.{List, length, replicate, Option, Some, None, if◌then◌else◌, ◌==◌}
+use Rattle.std.specs.Prelude.{◌≡◌, ◌⊎◌, ℕ, ◌+◌, ◌-◌, ◌^◌, ◌<◌, Bool, true, false}
+use Rattle.std.specs.Prelude.{List, length, replicate, Some}
 use Rattle.zd_base.specs.declared.numbers.Why.{Why}
 use Rattle.zd_alloc.specs.Zones.{Division, use_at}
 use Rattle.zd_disk.specs.View.{Stays, View}
 use Rattle.zd_alloc.specs.declared.uses.ZoneUse.TheVariants.{Limbo}
 use Rattle.zd_volume.specs.Abandons.{IsAbandoned}
 use Rattle.zd_volume.specs.declared.phase.Phase.{Phase}
-use Rattle.zd_volume.specs.Commits.{EndsLimbo, IsLastCall, after_call, calls_left}
+use Rattle.zd_volume.specs.Commits.{EndsLimbo, IsLastCall, after_phase, calls_left}
 use Rattle.zd_volume.specs.Phases.{end_generation, with_generation}
 use Rattle.zd_volume.specs.Uses.{dirty_from}
 use Rattle.zd_volume.specs.Volumes.{PlainVolume}
@@ -46,8 +46,8 @@ StopsCommitting from to Why.Memory = ⊥
 
 -- Inside a whole commit: the phase and the count of calls alone have changed, both only once a call was
 -- made, and those that were made and those that are left are together as many as at first.
-pub record IsUnderWay (from to : PlainVolume) (u v : View) : Type 0 where
-  pub rest : to ≡ after_call from to.phase to.since from.stopped
+pub record IsInCommit (from to : PlainVolume) (u v : View) : Type 0 where
+  pub rest : to ≡ after_phase from to.phase to.since from.stopped
   pub begun : to.phase ≡ Idle → to ≡ from
   pub stays : Stays u v
   pub left : v.calls < 2 ^ 64 - 1 →

@@ -14,7 +14,7 @@ use Rattle.zd_tables.specs.Rules.{FollowRules}
 use Rattle.zd_tables.specs.Tables.{tables_in}
 use Rattle.zd_tables.specs.declared.part.ChangedParts.{ChangedParts}
 use Rattle.zd_tables.proofs.ZoneParts.{one_or_two}
-use Rattle.zd_volume.specs.Discards.{DiscardsBlocks, DropsRange, after_drop, chunk_touched, end_of, first_of}
+use Rattle.zd_volume.specs.Discards.{DiscardsBlocks, DropsRange, after_drop, chunk_touched, range_end, range_first}
 use Rattle.zd_volume.specs.Flights.{answered}
 use Rattle.zd_volume.specs.Jobs.{class_in}
 use Rattle.zd_volume.specs.Marks.{GivesBitsIn, MarksParts}
@@ -44,7 +44,7 @@ gives_in g l o z first end is old new dirty marked changed bits tells marks =
 -- THE STEPS OF A DISCARD: the chunk's zone, its buffer, its class, the entry
 module _ (v : PlainVolume) (fixed : IsFixed v) (p : Piece) (is : DiscardsBlocks (sets_of v) p.what)
     (chunk first count : ℕ) (at : chunk ≡ chunk_touched v.geometry.zone_blocks p.what)
-    (from : first ≡ first_of v.geometry.zone_blocks p.what) (many : count ≡ block_count p.what)
+    (from : first ≡ range_first v.geometry.zone_blocks p.what) (many : count ≡ block_count p.what)
     (e : MapEntry) (names : e ≡ entry_of (new_tables (sets_of v)) chunk)
     (m : PlainVolume) (half : m ≡ record v { fresh = m.fresh; dirty = m.dirty })
     (one : GivesBitsIn false v.geometry v.head.layout e.zone first (first + count) v.fresh m.fresh v.dirty m.dirty)
@@ -57,12 +57,12 @@ module _ (v : PlainVolume) (fixed : IsFixed v) (p : Piece) (is : DiscardsBlocks 
   entry_is : e ≡ entry
   entry_is = rw at at names
 
-  of_zone : GivesBitsIn false v.geometry v.head.layout entry.zone (first_of v.geometry.zone_blocks p.what)
-      (end_of v.geometry.zone_blocks p.what) v.fresh m.fresh v.dirty m.dirty
+  of_zone : GivesBitsIn false v.geometry v.head.layout entry.zone (range_first v.geometry.zone_blocks p.what)
+      (range_end v.geometry.zone_blocks p.what) v.fresh m.fresh v.dirty m.dirty
   of_zone = rw (entry_is, from, many) at one
 
-  of_buffer : GivesBitsIn false v.geometry v.head.layout entry.buffer (first_of v.geometry.zone_blocks p.what)
-      (end_of v.geometry.zone_blocks p.what) m.fresh n.fresh m.dirty n.dirty
+  of_buffer : GivesBitsIn false v.geometry v.head.layout entry.buffer (range_first v.geometry.zone_blocks p.what)
+      (range_end v.geometry.zone_blocks p.what) m.fresh n.fresh m.dirty n.dirty
   of_buffer =
       rw (entry_is, from, many) at
       (subst (λ (w : PlainVolume). GivesBitsIn false w.geometry w.head.layout e.buffer first (first + count) m.fresh
@@ -76,9 +76,9 @@ module _ (v : PlainVolume) (fixed : IsFixed v) (p : Piece) (is : DiscardsBlocks 
   rules_dropped =
       subst (λ (w : PlainVolume). FollowRules w.geometry w.head.layout n.fresh) (sym both)
       (sets_dropped (sets_of v) fixed.sets (chunk_touched v.geometry.zone_blocks p.what)
-      (first_of v.geometry.zone_blocks p.what) (end_of v.geometry.zone_blocks p.what) n.fresh
+      (range_first v.geometry.zone_blocks p.what) (range_end v.geometry.zone_blocks p.what) n.fresh
       (range_cleared (sets_of v) fixed.sets (chunk_touched v.geometry.zone_blocks p.what)
-      (first_of v.geometry.zone_blocks p.what) (end_of v.geometry.zone_blocks p.what) is.inside m.fresh n.fresh v.dirty
+      (range_first v.geometry.zone_blocks p.what) (range_end v.geometry.zone_blocks p.what) is.inside m.fresh n.fresh v.dirty
       m.dirty n.dirty of_zone of_buffer)).new_rules
 
   pub drops_in_steps : (o : PlainVolume)

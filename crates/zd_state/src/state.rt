@@ -7,7 +7,7 @@ ghost use Rattle.zd_disk.specs.Told.{next_count};
 ghost use Rattle.zd_model.specs.Plain.{Answer as answers};
 ghost use Rattle.zd_sets.specs.Equal.{head_at};
 ghost use Rattle.zd_sets.specs.Stages.{next_head};
-ghost use Rattle.zd_volume.specs.Commits.{EndsLimbo, after_call, after_end, after_failed, flush_entries};
+ghost use Rattle.zd_volume.specs.Commits.{EndsLimbo, after_phase, after_end, after_failed, flush_entries};
 ghost use Rattle.zd_volume.specs.Uses.{IsNamedFlags};
 ghost use Rattle.zd_volume.specs.Phases.{IsNextDirty, first_zone};
 ghost use Rattle.zd_volume.specs.Sets.{second, used};
@@ -118,7 +118,7 @@ impl VolumeState {
     /// A call inside a commit was made.
     pub(crate) fn advance(&mut self, phase: Phase)
         ensures { self.new ≡ record self.old {
-          plain = after_call self.old.plain phase (next_count self.old.plain.since) self.old.plain.stopped;
+          plain = after_phase self.old.plain phase (next_count self.old.plain.since) self.old.plain.stopped;
         } }
     {
         self.phase = phase;

@@ -5,8 +5,8 @@ ghost use Rattle.zd_disk.specs.Moments.{AtEach};
 ghost use Rattle.zd_disk.specs.Told.{WhereTold};
 ghost use Rattle.zd_model.specs.Safe.{IsSafe, base_at};
 ghost use Rattle.zd_model.specs.Image.{Image};
-ghost use Rattle.zd_volume.specs.FaultCounts.{CountsFaults};
-ghost use Rattle.zd_volume.specs.Volumes.{CountsCalls, IsFixed};
+ghost use Rattle.zd_volume.specs.FaultCounts.{TellsFaults};
+ghost use Rattle.zd_volume.specs.Volumes.{CountsSince, IsFixed};
 
 use crate::state::VolumeState;
 use std::marker::Model;
@@ -55,8 +55,8 @@ impl<D: ZonedDisk> Volume<D> {
     /// Each entry was made when no more writing calls had returned than now, and no more faults are told
     /// than the disk had since opening; one more where it stopped the volume.
     pub fn counts(&self)
-        ensures calls { CountsCalls self.now.plain (D.view self.now.opening).calls (D.view self.now.disk).calls }
-        ensures faults { CountsFaults self.now.plain.history self.now.plain.stopped
+        ensures calls { CountsSince self.now.plain (D.view self.now.opening).calls (D.view self.now.disk).calls }
+        ensures faults { TellsFaults self.now.plain.history self.now.plain.stopped
             (D.view self.now.opening).faults (D.view self.now.disk).faults }
     {
         let _state = &self.state;

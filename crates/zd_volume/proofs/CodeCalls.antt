@@ -21,7 +21,7 @@ use Rattle.zd_sets.specs.Writes.{WroteBlock}
 use Rattle.zd_sets.proofs.StageWrites.{next_has_block}
 use Rattle.zd_base.specs.declared.numbers.Why.{Why}
 use Rattle.zd_volume.specs.CommitCalls.{FlushesOnce, IsBlockDue, MakesCommitCall, MakesPhaseCall, WritesBlock, WritesSuper}
-use Rattle.zd_volume.specs.Commits.{after_call, after_end, after_failed, AreFlushes, CommitStep, EndsLimbo, flush_entries, IsLastCall, IsPhaseAfter}
+use Rattle.zd_volume.specs.Commits.{after_phase, after_end, after_failed, AreFlushes, CommitStep, EndsLimbo, flush_entries, IsLastCall, IsPhaseAfter}
 use Rattle.zd_volume.specs.Phases.{after_block, after_flush, after_super, block_phase, first_zone, IsInnerFlush, IsNextDirty, super_phase}
 use Rattle.zd_volume.specs.Sets.{second, used}
 use Rattle.zd_volume.specs.Uses.{AreUsed, dirty_from, IsDirtyBlock, IsNamedFlags, IsPhase}
@@ -80,7 +80,7 @@ module _ (v : PlainVolume) (opening d e : View) (runs : v.stopped ≡ None) (was
       (call : WritesBlock v (first_zone in_place (second (sets_of v))) k d e) where
     pub block_made : Turns (WroteBlock (first_zone in_place (second (sets_of v)) + k / v.geometry.zone_blocks)
         (k % v.geometry.zone_blocks) (blocks_of v.fresh k 1)) d e
-        → IsKeptVolume (after_call v (after_block in_place next) (next_count v.since) v.stopped) opening e
+        → IsKeptVolume (after_phase v (after_block in_place next) (next_count v.since) v.stopped) opening e
     block_made turns =
         kept_block v opening d e runs was in_place k next phase is call
         (turns_wrote (first_zone in_place (second (sets_of v)) + k / v.geometry.zone_blocks)
@@ -103,7 +103,7 @@ module _ (v : PlainVolume) (opening d e : View) (runs : v.stopped ≡ None) (was
       (call : WritesSuper v (first_zone in_place (second (sets_of v))) d e) where
     pub super_made : Turns (WroteBlock (first_zone in_place (second (sets_of v))) 0
         (block_of (head_at v.geometry (first_zone in_place (second (sets_of v))) (next_head v.head)))) d e
-        → IsKeptVolume (after_call v (after_super in_place) (next_count v.since) v.stopped) opening e
+        → IsKeptVolume (after_phase v (after_super in_place) (next_count v.since) v.stopped) opening e
     super_made turns =
         kept_super v opening d e runs was in_place phase sizes call
         (turns_wrote (first_zone in_place (second (sets_of v))) 0
@@ -123,7 +123,7 @@ module _ (v : PlainVolume) (opening d e : View) (runs : v.stopped ≡ None) (was
   -- A FLUSH
   module _ (turns : Turns Same d e) (call : FlushesOnce d e) where
     pub flush_made : (next : Option ℕ) → IsInnerFlush v.phase → IsNextDirty v.dirty 1 next → IsDurable e
-        → IsKeptVolume (after_call v (after_flush v.phase next) (next_count v.since) v.stopped) opening e
+        → IsKeptVolume (after_phase v (after_flush v.phase next) (next_count v.since) v.stopped) opening e
     flush_made next flush is durable = kept_flush v opening d e runs was next flush is turns call durable
 
     pub flush_failed : (pieces : List Piece) → AreFlushes pieces → HasFailed d e
@@ -228,7 +228,7 @@ module _ (v : PlainVolume) (opening d e : View) (runs : v.stopped ≡ None) (was
       → WritesBlock v (first_zone in_place (second (sets_of v))) k d e
       → Turns (WroteBlock (first_zone in_place (second (sets_of v)) + k / v.geometry.zone_blocks)
       (k % v.geometry.zone_blocks) (blocks_of v.fresh k 1)) d e
-      → IsKeptVolume (after_call v (after_block in_place next) (next_count v.since) v.stopped) opening e
+      → IsKeptVolume (after_phase v (after_block in_place next) (next_count v.since) v.stopped) opening e
   due_made true due call turns = block_made v opening d e runs was true k next due is call turns
   due_made false (inl phase) call turns = block_made v opening d e runs was false k next phase is call turns
   due_made false (inr begins) call turns =

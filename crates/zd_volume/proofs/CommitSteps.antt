@@ -8,7 +8,7 @@ use Rattle.zd_disk.specs.View.{Calls, IsDurable, Turns, View}
 use Rattle.zd_sets.specs.Blocks.{blocks_of}
 use Rattle.zd_sets.specs.Equal.{head_at}
 use Rattle.zd_sets.specs.Stages.{next_head}
-use Rattle.zd_volume.specs.Commits.{after_call}
+use Rattle.zd_volume.specs.Commits.{after_phase}
 use Rattle.zd_volume.specs.Phases.{after_block, after_flush, after_super, block_phase, first_zone, IsInnerFlush, IsNextDirty, super_phase}
 use Rattle.zd_volume.specs.Sets.{second}
 use Rattle.zd_volume.specs.Uses.{IsDirtyBlock, IsPhase}
@@ -86,7 +86,7 @@ module _ (v : PlainVolume) (opening d e : View) (runs : v.stopped ≡ None) (was
       (8 * (k % v.geometry.zone_blocks)) (blocks_of v.fresh k 1)) d e
       → Turns (Wrote (first_zone in_place (second (sets_of v)) + k / v.geometry.zone_blocks)
       (8 * (k % v.geometry.zone_blocks)) (blocks_of v.fresh k 1)) d e
-      → IsKeptVolume (after_call v (after_block in_place next) (next_count v.since) v.stopped) opening e
+      → IsKeptVolume (after_phase v (after_block in_place next) (next_count v.since) v.stopped) opening e
   kept_block in_place k next phase is call turns =
       let at = is_block in_place k v.dirty v.head.generation
       (subst (λ (p : Phase). IsPhase p v.dirty v.head.generation) phase was.fixed.under_way) in
@@ -104,7 +104,7 @@ module _ (v : PlainVolume) (opening d e : View) (runs : v.stopped ≡ None) (was
       (block_of (head_at v.geometry (first_zone in_place (second (sets_of v))) (next_head v.head)))) d e
       → Turns (Wrote (first_zone in_place (second (sets_of v))) 0
       (block_of (head_at v.geometry (first_zone in_place (second (sets_of v))) (next_head v.head)))) d e
-      → IsKeptVolume (after_call v (after_super in_place) (next_count v.since) v.stopped) opening e
+      → IsKeptVolume (after_phase v (after_super in_place) (next_count v.since) v.stopped) opening e
   kept_super in_place phase sizes call turns =
       let at = is_super in_place v.dirty v.head.generation
       (subst (λ (p : Phase). IsPhase p v.dirty v.head.generation) phase was.fixed.under_way) in
@@ -116,7 +116,7 @@ module _ (v : PlainVolume) (opening d e : View) (runs : v.stopped ≡ None) (was
   -- A FLUSH inside a commit
   pub kept_flush : (next : Option ℕ) → IsInnerFlush v.phase → IsNextDirty v.dirty 1 next
       → Turns Same d e → Calls (λ _. Same) (λ _ _. Same) d e → IsDurable e
-      → IsKeptVolume (after_call v (after_flush v.phase next) (next_count v.since) v.stopped) opening e
+      → IsKeptVolume (after_phase v (after_flush v.phase next) (next_count v.since) v.stopped) opening e
   kept_flush next flush is turns call durable =
       kept_narrow v opening d e runs was turns call (after_flush v.phase next)
       (inner_flush (sets_of v) was.fixed.sets v.dirty was.fixed.flags v.phase next flush is)

@@ -16,7 +16,7 @@ use Rattle.zd_disk.specs.Told.{next_count}
 use Rattle.zd_disk.specs.View.{Calls, HasFailed, Turns, View}
 use Rattle.zd_disk.proofs.StepGrowth.{grows_by_reset, grows_by_write}
 use Rattle.zd_volume.specs.Commits.{stopped_by}
-use Rattle.zd_volume.specs.FaultCounts.{CountsFaults}
+use Rattle.zd_volume.specs.FaultCounts.{TellsFaults}
 use Rattle.zd_volume.specs.LeftImages.{MayBeLeft}
 use Rattle.zd_volume.specs.Phases.{TakesNew, TakesOld}
 use Rattle.zd_volume.specs.Sets.{new_tables, old_tables}
@@ -36,9 +36,9 @@ done_runs false is = absurd (let f : ⊥ = cc in f)
 -- the count of faults after a call that was done, or failed, and that enters nothing
 pub faults_by : (v : PlainVolume) (opening d e : View) (done : Bool) → v.stopped ≡ None → IsKeptVolume v opening d
     → d.faults ≤ e.faults → (done ≡ false → HasFailed d e)
-    → CountsFaults v.history (stopped_by done) opening.faults e.faults
+    → TellsFaults v.history (stopped_by done) opening.faults e.faults
 faults_by v opening d e true runs was more failed =
-    subst (λ (o : Option Why). CountsFaults v.history o opening.faults e.faults) runs
+    subst (λ (o : Option Why). TellsFaults v.history o opening.faults e.faults) runs
     (faults_later v.history v.stopped opening.faults d.faults e.faults was.faulted more)
 faults_by v opening d e false runs was more failed =
     faults_failed v.history v.stopped opening.faults d.faults e.faults was.faulted more (failed refl)

@@ -19,7 +19,7 @@ use Rattle.zd_disk.specs.Told.{next_count}
 use Rattle.zd_disk.specs.View.{Calls, Turns, View}
 use Rattle.zd_disk.proofs.StepGrowth.{grows_by_write}
 use Rattle.zd_volume.specs.Commits.{stopped_by}
-use Rattle.zd_volume.specs.FaultCounts.{AreCalm, CountsFaults}
+use Rattle.zd_volume.specs.FaultCounts.{AreCalm, TellsFaults}
 use Rattle.zd_volume.specs.LeftImages.{MayBeLeft}
 use Rattle.zd_volume.specs.Sets.{device_sectors, old_tables}
 use Rattle.zd_volume.specs.Volumes.{IsFixed, IsKeptVolume, IsNow, Known, MayBe, PlainVolume, sets_of}
@@ -54,7 +54,7 @@ module _ (v : PlainVolume) (opening d e : View) (runs : v.stopped ≡ None) (was
     (R : Image → Image → Type 0) (turns : Turns R d e) where
   pub kept_write : (z start : ℕ) (bytes : List ℕ) → v.phase ≡ Idle → first_data_zone v.geometry v.head.layout ≤ z
       → entry.at ≡ next_count v.since → is_done_flush entry.what entry.reply ≡ false
-      → CountsFaults (v.history ++ entry ∷ []) (stopped_by done) opening.faults e.faults
+      → TellsFaults (v.history ++ entry ∷ []) (stopped_by done) opening.faults e.faults
       → (done ≡ true → AreCalm (v.history ++ entry ∷ []))
       → ((k n j : ℕ) → next_count v.since ≤ k + 1 → n < device_sectors (sets_of v)
       → zone_at v.geometry.zone_blocks (old_tables (sets_of v)) n ≡ Some z → j < count_of bytes

@@ -10,7 +10,7 @@ use Rattle.zd_model.specs.Safe.{last_at}
 use Rattle.zd_model.specs.Tables.{entry_of}
 use Rattle.zd_model.proofs.LastLaws.{covers_cases}
 use Rattle.zd_tables.specs.Tables.{tables_in}
-use Rattle.zd_volume.specs.Discards.{ClearsRange, DiscardsBlocks, NoJobOn, chunk_touched, end_of, first_of}
+use Rattle.zd_volume.specs.Discards.{ClearsRange, DiscardsBlocks, NoJobOn, chunk_touched, range_end, range_first}
 use Rattle.zd_volume.specs.Jobs.{AreCopied, HasCopies, IsJob, IsJobOrNone, sector_of_chunk, source_of}
 use Rattle.zd_volume.specs.Sets.{AreSets, Sets, device_sectors, new_tables}
 use Rattle.zd_volume.specs.declared.work.Work.{Work}
@@ -27,8 +27,8 @@ chunk_of_sector g chunk x j within few =
 
 module _ (s : Sets) (are : AreSets s) (base : List (List ℕ)) (size : length base ≡ device_sectors s)
     (h : List HistoryEntry) (e : HistoryEntry) (is : DiscardsBlocks s e.what) (done : e.reply ≡ Done) (bytes : List ℕ)
-    (did : ClearsRange s (chunk_touched s.geometry.zone_blocks e.what) (first_of s.geometry.zone_blocks e.what)
-    (end_of s.geometry.zone_blocks e.what) bytes) where
+    (did : ClearsRange s (chunk_touched s.geometry.zone_blocks e.what) (range_first s.geometry.zone_blocks e.what)
+    (range_end s.geometry.zone_blocks e.what) bytes) where
   -- the sectors of another chunk are as they were
   other_last : (chunk x j : ℕ) → chunk ≢ chunk_touched s.geometry.zone_blocks e.what → x < s.geometry.zone_blocks
       → j < 8
@@ -50,7 +50,7 @@ module _ (s : Sets) (are : AreSets s) (base : List (List ℕ)) (size : length ba
         let was = copies.copied y z x j
         (sym (ap (λ m. source_of w.job.kind m) (did.bits.entries w.job.chunk)) ∙ source) to low
         (still_valid (entry_of (new_tables s) (chunk_touched s.geometry.zone_blocks e.what))
-        (first_of s.geometry.zone_blocks e.what) (end_of s.geometry.zone_blocks e.what) (new_tables s)
+        (range_first s.geometry.zone_blocks e.what) (range_end s.geometry.zone_blocks e.what) (new_tables s)
         (tables_in s.geometry s.head.layout bytes) did.bits y x valid) few in
         (was.0, was.1 ∙ sym (other_last w.job.chunk x j off (omega (arith, low, inside)) few));
     read = λ x j from high few.

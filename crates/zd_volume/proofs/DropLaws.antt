@@ -19,8 +19,8 @@ use Rattle.zd_model.proofs.ArrayLaws.{length-last_array}
 use Rattle.zd_model.proofs.HeldLaws.{AreBy-push}
 use Rattle.zd_disk.specs.View.{View}
 use Rattle.zd_tables.specs.Tables.{tables_in}
-use Rattle.zd_volume.specs.Discards.{ClearsRange, DiscardsBlocks, DropsRange, NoJobOn, after_drop, chunk_touched, end_of}
-use Rattle.zd_volume.specs.Discards.{first_of}
+use Rattle.zd_volume.specs.Discards.{ClearsRange, DiscardsBlocks, DropsRange, NoJobOn, after_drop, chunk_touched, range_end}
+use Rattle.zd_volume.specs.Discards.{range_first}
 use Rattle.zd_volume.specs.Flights.{answered}
 use Rattle.zd_volume.specs.FaultCounts.{AreCalm}
 use Rattle.zd_volume.specs.Jobs.{class_in}
@@ -66,8 +66,8 @@ module _ (v : PlainVolume) (opening now : View) (runs : v.stopped ≡ None) (was
     (at : e.at ≡ v.since) (off : NoJobOn v.job (chunk_touched v.geometry.zone_blocks e.what))
     (bytes : List ℕ) (dirty : List Bool) (classes : List (Option JobClass))
     (did : ClearsRange (sets_of v) (chunk_touched v.geometry.zone_blocks e.what)
-    (first_of v.geometry.zone_blocks e.what)
-    (end_of v.geometry.zone_blocks e.what) bytes)
+    (range_first v.geometry.zone_blocks e.what)
+    (range_end v.geometry.zone_blocks e.what) bytes)
     (marks : MarksChanged v.fresh bytes v.dirty dirty)
     (gives : GivesClass (chunk_touched v.geometry.zone_blocks e.what)
     (class_in v.geometry v.pointers (tables_in v.geometry v.head.layout bytes)
@@ -77,10 +77,10 @@ module _ (v : PlainVolume) (opening now : View) (runs : v.stopped ≡ None) (was
   c = chunk_touched v.geometry.zone_blocks e.what
 
   abbrev first : ℕ
-  first = first_of v.geometry.zone_blocks e.what
+  first = range_first v.geometry.zone_blocks e.what
 
   abbrev end : ℕ
-  end = end_of v.geometry.zone_blocks e.what
+  end = range_end v.geometry.zone_blocks e.what
 
   -- what is true of the values alone
   fixed_dropped : IsFixed (after_drop v bytes dirty classes e)
@@ -138,20 +138,20 @@ pub drops_by : (v : PlainVolume) (p : Piece) (middle bytes : List ℕ) (half mar
     (classes : List (Option JobClass)) → AreSets (sets_of v) → DiscardsBlocks (sets_of v) p.what
     → GivesBitsIn false v.geometry v.head.layout
     (entry_of (new_tables (sets_of v)) (chunk_touched v.geometry.zone_blocks p.what)).zone
-    (first_of v.geometry.zone_blocks p.what) (end_of v.geometry.zone_blocks p.what) v.fresh middle v.dirty half
+    (range_first v.geometry.zone_blocks p.what) (range_end v.geometry.zone_blocks p.what) v.fresh middle v.dirty half
     → GivesBitsIn false v.geometry v.head.layout
     (entry_of (new_tables (sets_of v)) (chunk_touched v.geometry.zone_blocks p.what)).buffer
-    (first_of v.geometry.zone_blocks p.what) (end_of v.geometry.zone_blocks p.what) middle bytes half marked
+    (range_first v.geometry.zone_blocks p.what) (range_end v.geometry.zone_blocks p.what) middle bytes half marked
     → GivesClass (chunk_touched v.geometry.zone_blocks p.what)
     (class_in v.geometry v.pointers (tables_in v.geometry v.head.layout bytes)
     (chunk_touched v.geometry.zone_blocks p.what)) v.standings.classes classes
     → DropsRange v (after_drop v bytes marked classes (answered p answers.Done v.since)) p
 drops_by v p middle bytes half marked classes are is one two gives = record {
   range = range_cleared (sets_of v) are (chunk_touched v.geometry.zone_blocks p.what)
-      (first_of v.geometry.zone_blocks p.what) (end_of v.geometry.zone_blocks p.what) is.inside middle bytes v.dirty
+      (range_first v.geometry.zone_blocks p.what) (range_end v.geometry.zone_blocks p.what) is.inside middle bytes v.dirty
       half marked one two;
   dirty = range_marked (sets_of v) are (chunk_touched v.geometry.zone_blocks p.what)
-      (first_of v.geometry.zone_blocks p.what) (end_of v.geometry.zone_blocks p.what) is.inside middle bytes v.dirty
+      (range_first v.geometry.zone_blocks p.what) (range_end v.geometry.zone_blocks p.what) is.inside middle bytes v.dirty
       half marked one two;
   classes = gives;
   rest = refl;

@@ -18,7 +18,7 @@ use Rattle.zd_model.specs.declared.requests.What.TheVariants.{Read, Write, Disca
 use Rattle.zd_model.proofs.ArrayLaws.{ends_inside}
 use Rattle.zd_model.proofs.LastLaws.{IsOutside}
 use Rattle.zd_model.proofs.ServedLaws.{placed, unplaced}
-use Rattle.zd_volume.specs.Discards.{ClearsBits, DiscardsBlocks, chunk_touched, end_of, first_of}
+use Rattle.zd_volume.specs.Discards.{ClearsBits, DiscardsBlocks, chunk_touched, range_end, range_first}
 use Rattle.zd_volume.specs.Sets.{Sets, device_sectors}
 use Rattle.zd_volume.proofs.DropTables.{in_or_out}
 use Rattle.zd_volume.proofs.PlaceLaws.{cases_place}
@@ -107,8 +107,8 @@ module _ (s : Sets) (what : What) (is : DiscardsBlocks s what) where
   -- its sectors are those of its blocks of its chunk
   pub covers_within : (n : ℕ) → Covers what n
       → IsWithin s.geometry.zone_blocks (chunk_touched s.geometry.zone_blocks what)
-      (first_of s.geometry.zone_blocks what)
-      (end_of s.geometry.zone_blocks what) n
+      (range_first s.geometry.zone_blocks what)
+      (range_end s.geometry.zone_blocks what) n
   covers_within n covers =
       let whole = whole_blocks what is.discards in
       let inside = is.inside in
@@ -116,16 +116,16 @@ module _ (s : Sets) (what : What) (is : DiscardsBlocks s what) where
       let c : ℕ = chunk_touched b what in
       let r : ℕ = n / 8 - c * b in
       let at : n / 8 ≡ c * b + r = omega (arith, whole.0, whole.1, blocks, covers.0, covers.1) in
-      let low : first_of b what ≤ r = omega (arith, whole.0, whole.1, blocks, covers.0, covers.1) in
-      let high : r < end_of b what = omega (arith, whole.0, whole.1, blocks, covers.0, covers.1) in
+      let low : range_first b what ≤ r = omega (arith, whole.0, whole.1, blocks, covers.0, covers.1) in
+      let high : r < range_end b what = omega (arith, whole.0, whole.1, blocks, covers.0, covers.1) in
       let few : r < b = omega (arith, high, inside) in
       let rest : n / 8 % b ≡ r = ap (λ (k : ℕ). k % b) at ∙ mod-mul-add c b r few in
       (ap (λ (k : ℕ). k / b) at ∙ div-mul-add c b r few, omega (arith, rest, low), omega (arith, rest, high))
 
   pub within_covers : (n : ℕ)
       → IsWithin s.geometry.zone_blocks (chunk_touched s.geometry.zone_blocks what)
-      (first_of s.geometry.zone_blocks what)
-      (end_of s.geometry.zone_blocks what) n
+      (range_first s.geometry.zone_blocks what)
+      (range_end s.geometry.zone_blocks what) n
       → Covers what n
   within_covers n h =
       let whole = whole_blocks what is.discards in
@@ -137,8 +137,8 @@ module _ (s : Sets) (what : What) (is : DiscardsBlocks s what) where
   -- one that is outside isn't within
   pub outside_within : (n : ℕ) → IsOutside what n
       → IsWithin s.geometry.zone_blocks (chunk_touched s.geometry.zone_blocks what)
-      (first_of s.geometry.zone_blocks what)
-      (end_of s.geometry.zone_blocks what) n → ⊥
+      (range_first s.geometry.zone_blocks what)
+      (range_end s.geometry.zone_blocks what) n → ⊥
   outside_within n off h =
       let c = within_covers n h in
       elim off [ inl before ↦ omega (arith, before, c.0) | inr behind ↦ omega (arith, behind, c.1) ]

@@ -19,7 +19,7 @@ use Rattle.zd_model.proofs.HistoryLaws.{last_array-push}
 use Rattle.zd_model.proofs.LastLaws.{IsOutside, covers_cases, put_in, put_off}
 use Rattle.zd_model.proofs.ServedLaws.{unplaced}
 use Rattle.zd_tables.specs.Tables.{tables_in}
-use Rattle.zd_volume.specs.Discards.{ClearsRange, DiscardsBlocks, chunk_touched, end_of, first_of}
+use Rattle.zd_volume.specs.Discards.{ClearsRange, DiscardsBlocks, chunk_touched, range_end, range_first}
 use Rattle.zd_volume.specs.LeftImages.{MayBeLeft, ReadsAs}
 use Rattle.zd_volume.specs.Sets.{AreSets, Sets, device_sectors, new_tables}
 use Rattle.zd_volume.specs.declared.phase.Phase.TheVariants.{Idle}
@@ -63,8 +63,8 @@ module _ (s : Sets) (base : List (List ℕ)) (size : length base ≡ device_sect
 
   -- WHAT THE DISK READS AS
   module _ (are : AreSets s) (bytes : List ℕ)
-      (did : ClearsRange s (chunk_touched s.geometry.zone_blocks e.what) (first_of s.geometry.zone_blocks e.what)
-      (end_of s.geometry.zone_blocks e.what) bytes) where
+      (did : ClearsRange s (chunk_touched s.geometry.zone_blocks e.what) (range_first s.geometry.zone_blocks e.what)
+      (range_end s.geometry.zone_blocks e.what) bytes) where
     abbrev b : ℕ
     b = s.geometry.zone_blocks
 
@@ -94,16 +94,16 @@ module _ (s : Sets) (base : List (List ℕ)) (size : length base ≡ device_sect
         below = λ k j _ _ none. absurd (let f : ⊥ = omega (arith, none) in f);
         from = r.second.from;
       };
-      below = below_dropped s.geometry i.held (entry_of t c) (first_of b e.what) (end_of b e.what) t u did.bits r.below;
+      below = below_dropped s.geometry i.held (entry_of t c) (range_first b e.what) (range_end b e.what) t u did.bits r.below;
       served = λ n low. elim (covers_cases e.what n) [
         | inl covers ↦
             unplaced b u i.sector n
-            (inside_nowhere b c (first_of b e.what) (end_of b e.what) t u did.bits apart n
+            (inside_nowhere b c (range_first b e.what) (range_end b e.what) t u did.bits apart n
             (covers_within s e.what is n covers))
             ∙ sym (last_inside n covers)
         | inr off ↦
             sector_same b t u i.sector n
-            (outside_there b c (first_of b e.what) (end_of b e.what) t u did.bits apart n
+            (outside_there b c (range_first b e.what) (range_end b e.what) t u did.bits apart n
             (outside_within s e.what is n off))
             ∙ r.served n low
             ∙ sym (last_outside n off)

@@ -20,7 +20,7 @@ use Rattle.zd_model.proofs.HeldLaws.{AreBy-push, no_flush}
 use Rattle.zd_model.proofs.HistoryLaws.{last_array-push}
 use Rattle.zd_disk.specs.Told.{WhereTold}
 use Rattle.zd_disk.specs.View.{HasFailed, OnlyReads, View}
-use Rattle.zd_volume.specs.FaultCounts.{CountsFaults, IsCalm}
+use Rattle.zd_volume.specs.FaultCounts.{TellsFaults, IsCalm}
 use Rattle.zd_volume.specs.Flights.{IsPieceIn, answered, serves, with_entry}
 use Rattle.zd_volume.specs.Jobs.{HasCopies, sector_of_chunk}
 use Rattle.zd_volume.specs.Sets.{Sets, device_sectors}
@@ -76,7 +76,7 @@ module _ (v : PlainVolume) (opening u x : View) (runs : v.stopped ≡ None) (io 
         ∙ after_quiet (last_array (base_at opening.zones) v.history) p.what reply quiet)
 
     pub kept_entered : IsCalm (answered p reply v.since)
-        → CountsFaults (with_entry v p reply).history v.stopped opening.faults x.faults
+        → TellsFaults (with_entry v p reply).history v.stopped opening.faults x.faults
         → ((r : Image) → u.zones ≡ Some r → IsLegal (base_at opening.zones) v.history
         → IsLegal (base_at opening.zones) (with_entry v p reply).history)
         → IsKeptVolume (with_entry v p reply) opening x

@@ -13,7 +13,7 @@ use Rattle.zd_model.specs.Requests.Operation.{Reading, Writing, Discarding, Flus
 use Rattle.zd_model.specs.Stops.{IsFlushAt}
 use Rattle.zd_model.specs.declared.requests.What.{What}
 use Rattle.zd_model.specs.declared.requests.What.TheVariants.{Flush}
-use Rattle.zd_volume.specs.FaultCounts.{AreCalm, CountsFaults, IsFailedFlushAt, has_fault, is_data, is_faulted, is_flushing, is_reading, read_faults, told_faults}
+use Rattle.zd_volume.specs.FaultCounts.{AreCalm, TellsFaults, IsFailedFlushAt, has_fault, is_data, is_faulted, is_flushing, is_reading, read_faults, told_faults}
 
 count_more : (p : HistoryEntry → Bool) (h es : List HistoryEntry) → count_by p (h ++ es) ≡ count_by p h + count_by p es
 count_more p h es = sum_by-append (λ e. cond (p e) 1 0) h es
@@ -67,7 +67,7 @@ read_few h = (let a = read_parts h in omega (arith, a))
 
 -- the count goes on
 pub faults_later : (h : List HistoryEntry) (stopped : Option Why) (opening now then : ℕ)
-    → CountsFaults h stopped opening now → now ≤ then → CountsFaults h stopped opening then
+    → TellsFaults h stopped opening now → now ≤ then → TellsFaults h stopped opening then
 faults_later h stopped opening now then counts more =
     let l = counts.later in
     record {
@@ -78,7 +78,7 @@ faults_later h stopped opening now then counts more =
 
 -- THE DISK FAILED: the count rose once more
 pub faults_failed : (h : List HistoryEntry) (stopped : Option Why) (opening now then : ℕ)
-    → CountsFaults h stopped opening now → now ≤ then → Rose now then → CountsFaults h (Some Why.Device) opening then
+    → TellsFaults h stopped opening now → now ≤ then → Rose now then → TellsFaults h (Some Why.Device) opening then
 faults_failed h stopped opening now then counts more rose =
     let l = counts.later in
     record {
@@ -137,8 +137,8 @@ module _ (h es : List HistoryEntry) (all : AllByRecursion TellsNone es) where
       let z = none_counted is_reading es all in
       omega (arith, c, z)
 
-  pub faults_none : (stopped : Option Why) (opening now : ℕ) → CountsFaults h stopped opening now
-      → CountsFaults (h ++ es) stopped opening now
+  pub faults_none : (stopped : Option Why) (opening now : ℕ) → TellsFaults h stopped opening now
+      → TellsFaults (h ++ es) stopped opening now
   faults_none stopped opening now counts =
       let t = told_same in
       let r = read_same in
@@ -171,8 +171,8 @@ faulted_is : (such : Operation → Bool) (e : HistoryEntry) (o : Operation) → 
 faulted_is such e o fault is = ap₂ (λ (p : Operation) (a : Answer). has_fault such p a) is fault
 
 pub faults_read : (h : List HistoryEntry) (e : HistoryEntry) (stopped : Option Why) (opening now then : ℕ)
-    → CountsFaults h stopped opening now → now ≤ then → Rose now then → e.reply ≡ Fault → operation_of e.what ≡ Reading
-    → CountsFaults (h ++ e ∷ []) stopped opening then
+    → TellsFaults h stopped opening now → now ≤ then → Rose now then → e.reply ≡ Fault → operation_of e.what ≡ Reading
+    → TellsFaults (h ++ e ∷ []) stopped opening then
 faults_read h e stopped opening now then counts more rose fault reads =
     let l = counts.later in
     let both = count_more (is_faulted is_data) h (e ∷ []) in
@@ -226,9 +226,9 @@ one_most true = omega arith
 one_most false = omega arith
 
 pub faults_flushes : (at : ℕ) (h es : List HistoryEntry) (stopped : Option Why) (opening now then : ℕ)
-    → CountsFaults h stopped opening now → AreCalm h → now ≤ then → Rose now then
+    → TellsFaults h stopped opening now → AreCalm h → now ≤ then → Rose now then
     → AllByRecursion (IsFailedFlushAt at) es
-    → CountsFaults (h ++ es) (Some Why.Device) opening then
+    → TellsFaults (h ++ es) (Some Why.Device) opening then
 faults_flushes at h es stopped opening now then counts calm more rose all =
     let l = counts.later in
     let both = count_more (is_faulted is_data) h es in

@@ -12,7 +12,7 @@ use Rattle.zd_disk.specs.OfGeometry.{IsImageOf}
 use Rattle.zd_disk.specs.Told.{WhereTold}
 use Rattle.zd_disk.specs.View.{View}
 use Rattle.zd_tables.specs.Rules.{AreBelow}
-use Rattle.zd_volume.specs.Flights.{IsFlight, IsRunOfRead, ReadsAt, ReadsRun, chunk_of, first_in_chunk, end_sector, next_sector, place_now, sectors_within, serves, stop_sector, tables_now}
+use Rattle.zd_volume.specs.Flights.{IsFlight, IsRunOfRead, ReadsPlace, ReadsRun, chunk_of, first_in_chunk, end_sector, next_sector, place_now, sectors_within, serves, stop_sector, tables_now}
 use Rattle.zd_volume.specs.Sets.{AreSets}
 use Rattle.zd_volume.specs.Volumes.{PlainVolume, sets_of}
 use Rattle.zd_volume.specs.declared.flight.Flight.{Flight}
@@ -85,7 +85,7 @@ module _ (v : PlainVolume) (are : AreSets (sets_of v)) (told : Option Image) (f 
           omega (arith, held, s)
 
     -- THE READ AFTER IT
-    module _ (u x : View) (same : u.zones ≡ told) (calls : ReadsAt zone u x) (bytes : ListWithRoom ℕ)
+    module _ (u x : View) (same : u.zones ≡ told) (calls : ReadsPlace zone u x) (bytes : ListWithRoom ℕ)
         (size : length bytes.items ≡ length f.bytes.items + 512 * (stop_sector v f count - next_sector v f))
         (room : f.bytes.room ≤ bytes.room + 512 * (stop_sector v f count - next_sector v f))
         (value : WhereTold told (λ i. bytes.items

@@ -7,7 +7,7 @@ use Rattle.zd_model.specs.Safe.{base_at}
 use Rattle.zd_disk.specs.Told.{next_count}
 use Rattle.zd_disk.specs.View.{Calls, HasFailed, IsDurable, Turns, View}
 use Rattle.zd_disk.proofs.ToldLaws.{Both-get}
-use Rattle.zd_volume.specs.Commits.{after_call}
+use Rattle.zd_volume.specs.Commits.{after_phase}
 use Rattle.zd_volume.specs.FaultCounts.{IsFailedFlushAt}
 use Rattle.zd_volume.specs.LeftImages.{MayBeLeft, ReadsAs}
 use Rattle.zd_volume.specs.Sets.{Sets}
@@ -37,9 +37,9 @@ module _ (v : PlainVolume) (opening d e : View) (runs : v.stopped ≡ None) (was
 
   -- IT WAS DONE
   pub kept_narrow : (q : Phase) → Narrows (sets_of v) v.phase q → IsPhase q v.dirty v.head.generation → IsDurable e
-      → IsKeptVolume (after_call v q (next_count v.since) v.stopped) opening e
+      → IsKeptVolume (after_phase v q (next_count v.since) v.stopped) opening e
   kept_narrow q is phase durable =
-      kept_call v (after_call v q (next_count v.since) v.stopped) opening d e (λ r. Same) runs was
+      kept_call v (after_phase v q (next_count v.since) v.stopped) opening d e (λ r. Same) runs was
       (record {
         geometry = refl;
         layout = refl;

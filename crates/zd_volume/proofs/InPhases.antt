@@ -11,7 +11,7 @@ use Rattle.zd_disk.specs.OfGeometry.{IsImageOf}
 use Rattle.zd_disk.specs.Told.{Both, next_count}
 use Rattle.zd_disk.specs.View.{View}
 use Rattle.zd_disk.proofs.ToldLaws.{Both-new, Some-same}
-use Rattle.zd_volume.specs.Commits.{after_call}
+use Rattle.zd_volume.specs.Commits.{after_phase}
 use Rattle.zd_volume.specs.LeftImages.{MayBeLeft}
 use Rattle.zd_volume.specs.Uses.{IsPhase}
 use Rattle.zd_volume.specs.Volumes.{HasPointers, IsFixed, IsKeptVolume, IsNow, MayBe, PlainVolume, sets_of}
@@ -41,7 +41,7 @@ pointers_stay g pointers z old new conv others h = record {
 
 module _ (v : PlainVolume) (opening d : View) (was : IsKeptVolume v opening d) where
   pub fixed_in : (q : Phase) (since : ℕ) (stopped : Option Why) → IsPhase q v.dirty v.head.generation
-      → IsFixed (after_call v q since stopped)
+      → IsFixed (after_phase v q since stopped)
   fixed_in q since stopped phase = record {
     sets = was.fixed.sets;
     flags = was.fixed.flags;

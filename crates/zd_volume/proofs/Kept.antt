@@ -134,10 +134,6 @@ module _ (v w : PlainVolume) (opening u x : View) (step : Image → Image → Im
         was.earlier (omega arith) r.0 r.1 k i before ((grown r.0 small r.1).only k i (omega arith) l);
   }
 
--- what a call of the disk makes of a volume, where it was told before what it read as
-abbrev pub Keeps : PlainVolume → PlainVolume → Type 0
-Keeps v w = (w.geometry ≡ v.geometry) × (w.head.layout ≡ v.head.layout) × (w.opening_generation ≡ v.opening_generation)
-
 -- it was told before a call where it is told after it
 module _ (u x : View) where
   pub told_before : (R : Image → Image → Type 0) → Turns R u x → (j : Image) → x.zones ≡ Some j

@@ -14,7 +14,7 @@ use Rattle.zd_disk.proofs.StepGrowth.{grows_by_write}
 use Rattle.zd_sets.specs.Stages.{InStage, IsWritten}
 use Rattle.zd_sets.specs.Writes.{WrotePart}
 use Rattle.zd_sets.proofs.MixLaws.{step_mixed}
-use Rattle.zd_volume.specs.Commits.{after_call}
+use Rattle.zd_volume.specs.Commits.{after_phase}
 use Rattle.zd_volume.specs.FaultCounts.{IsFailedFlushAt}
 use Rattle.zd_volume.specs.LeftImages.{MayBeLeft}
 use Rattle.zd_volume.specs.Phases.{first_count, first_head, first_stage, second_count, second_head, second_stage, TakesNew, TakesOld}
@@ -72,7 +72,7 @@ module _ (v : PlainVolume) (opening d e : View) (runs : v.stopped ≡ None) (was
 
   reads : Turns (Wrote z start bytes) d e → (r j : Image) → d.zones ≡ Some r → e.zones ≡ Some j
       → IsImageOf v.geometry r → IsImageOf v.geometry j → IsNow v (base_at opening.zones) r
-      → IsNow (after_call v q (next_count v.since) v.stopped) (base_at opening.zones) j
+      → IsNow (after_phase v q (next_count v.since) v.stopped) (base_at opening.zones) j
   reads turns r j t u of_r of_j now =
       let w = both_at (Wrote z start bytes) d.zones e.zones turns.reads r j t u in
       let stay = data_others (sets_of v) was.fixed.sets r j z leads.zone w.others in
@@ -88,9 +88,9 @@ module _ (v : PlainVolume) (opening d e : View) (runs : v.stopped ≡ None) (was
 
   -- IT WAS DONE
   pub kept_meta : IsPhase q v.dirty v.head.generation → Turns (Wrote z start bytes) d e
-      → IsKeptVolume (after_call v q (next_count v.since) v.stopped) opening e
+      → IsKeptVolume (after_phase v q (next_count v.since) v.stopped) opening e
   kept_meta phase turns =
-      kept_call v (after_call v q (next_count v.since) v.stopped) opening d e (λ r. WriteStep r z start bytes) runs was
+      kept_call v (after_phase v q (next_count v.since) v.stopped) opening d e (λ r. WriteStep r z start bytes) runs was
       (record {
         geometry = refl;
         layout = refl;

@@ -10,7 +10,7 @@ use Rattle.zd_model.proofs.SafeHistory.{safe_more}
 use Rattle.zd_disk.specs.Moments.{AtEach}
 use Rattle.zd_disk.specs.View.{OnlyReads, View}
 use Rattle.zd_disk.proofs.Moments.{no_moment}
-use Rattle.zd_volume.specs.FaultCounts.{AreCalm, CountsFaults}
+use Rattle.zd_volume.specs.FaultCounts.{AreCalm, TellsFaults}
 use Rattle.zd_volume.specs.Volumes.{IsFixed, IsKeptVolume, IsNow, MayBe, PlainVolume}
 
 -- what such a step leaves of the volume
@@ -26,7 +26,7 @@ pub record StaysVolume (v w : PlainVolume) : Type 0 where
 pub record LeadsStill (v w : PlainVolume) (base : List (List ℕ)) (opening u x : View) : Type 0 where
   pub fixed : IsFixed w
   pub by_now : AreBy w.since w.history
-  pub faulted : CountsFaults w.history w.stopped opening.faults x.faults
+  pub faulted : TellsFaults w.history w.stopped opening.faults x.faults
   pub calm : w.stopped ≡ None → AreCalm w.history
   pub legal : (r : Image) → u.zones ≡ Some r → IsLegal base v.history → IsLegal base w.history
   pub more : (k n : ℕ) (y : List ℕ) → MayHold base v.history k n y → MayHold base w.history k n y
@@ -90,7 +90,7 @@ kept_still v w opening u x same io was leads = record {
 
 -- A STEP THAT CHANGES NOTHING of the volume's values, but reads
 module _ (v : PlainVolume) (opening u x : View) (io : OnlyReads u x) (was : IsKeptVolume v opening u) where
-  pub faulted_later : CountsFaults v.history v.stopped opening.faults x.faults
+  pub faulted_later : TellsFaults v.history v.stopped opening.faults x.faults
   faulted_later =
       let more = io.stays.later in
       let l = was.faulted.later in

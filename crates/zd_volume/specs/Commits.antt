@@ -70,8 +70,8 @@ abbrev pub stopped_by : Bool → Option Why
 stopped_by done = if done then None else Some Why.Device
 
 -- the volume after a call inside a commit: another phase, one more call; or it is stopped
-abbrev pub after_call : PlainVolume → Phase → ℕ → Option Why → PlainVolume
-after_call v phase since stopped = record v { phase = phase; since = since; stopped = stopped }
+abbrev pub after_phase : PlainVolume → Phase → ℕ → Option Why → PlainVolume
+after_phase v phase since stopped = record v { phase = phase; since = since; stopped = stopped }
 
 -- THE FLUSH THAT ENDS A COMMIT, alone or the last of many: the new tables are the committed ones,
 -- nothing is dirty, limbo has ended, and the flushes that wait are entered
@@ -92,7 +92,7 @@ after_end v alone entries clean named division since = record v {
 -- are others
 pub record Advances (from to : PlainVolume) : Type 0 where
   pub phase : IsPhaseAfter from.dirty from.phase to.phase
-  pub rest : to ≡ after_call from to.phase (next_count from.since) from.stopped
+  pub rest : to ≡ after_phase from to.phase (next_count from.since) from.stopped
 
 -- the next call is the last: the only one where nothing is dirty (`alone`), or the ninth phase's
 abbrev pub IsLastCall : Bool → Phase → List Bool → Type 0

@@ -25,16 +25,16 @@ use Rattle.zd_volume.specs.declared.work.Work.{Work}
 abbrev pub chunk_touched : ℕ → What → ℕ
 chunk_touched b what = first_block what / b
 
-abbrev pub first_of : ℕ → What → ℕ
-first_of b what = first_block what % b
+abbrev pub range_first : ℕ → What → ℕ
+range_first b what = first_block what % b
 
-abbrev pub end_of : ℕ → What → ℕ
-end_of b what = first_of b what + block_count what
+abbrev pub range_end : ℕ → What → ℕ
+range_end b what = range_first b what + block_count what
 
 -- it is a discard of blocks of one chunk of the device
 pub record DiscardsBlocks (s : Sets) (what : What) : Type 0 where
   pub discards : operation_of what ≡ Discarding
-  pub inside : end_of s.geometry.zone_blocks what ≤ s.geometry.zone_blocks
+  pub inside : range_end s.geometry.zone_blocks what ≤ s.geometry.zone_blocks
   pub there : chunk_touched s.geometry.zone_blocks what < s.head.layout.chunks
 
 -- the blocks of a range are invalid in the zones of an entry now; all else of the tables is as it
@@ -72,7 +72,7 @@ after_drop v fresh dirty classes e = record v {
 -- that changed are dirty, the chunk has its class anew, and the piece is entered with Done
 pub record DropsRange (from to : PlainVolume) (p : Piece) : Type 0 where
   pub range : ClearsRange (sets_of from) (chunk_touched from.geometry.zone_blocks p.what)
-      (first_of from.geometry.zone_blocks p.what) (end_of from.geometry.zone_blocks p.what) to.fresh
+      (range_first from.geometry.zone_blocks p.what) (range_end from.geometry.zone_blocks p.what) to.fresh
   pub dirty : MarksChanged from.fresh to.fresh from.dirty to.dirty
   pub classes : GivesClass (chunk_touched from.geometry.zone_blocks p.what)
       (class_in from.geometry from.pointers (tables_in from.geometry from.head.layout to.fresh)

@@ -42,7 +42,7 @@ told_faults history =
 
 -- The disk's count rose at least as often as faults are told; and once more than reads tell where the
 -- volume stopped by its failure. While the count is below its end.
-pub record CountsFaults (history : List HistoryEntry) (stopped : Option Why) (opening now : ℕ)
+pub record TellsFaults (history : List HistoryEntry) (stopped : Option Why) (opening now : ℕ)
     : Type 0 where
   pub later : opening ≤ now
   pub told : now < 2 ^ 64 - 1 → opening + told_faults history ≤ now

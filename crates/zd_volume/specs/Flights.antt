@@ -100,16 +100,16 @@ IsRunOfRead v f =
     (first_in_chunk v f.piece.what / 8 + block_count f.piece.what)
 
 -- a run with a place takes one reading call, another one none
-abbrev pub ReadsAt : Option ℕ → View → View → Type 0
-ReadsAt None u x = ReadsNone u x
-ReadsAt (Some zone) u x = ReadsOnce u x
+abbrev pub ReadsPlace : Option ℕ → View → View → Type 0
+ReadsPlace None u x = ReadsNone u x
+ReadsPlace (Some zone) u x = ReadsOnce u x
 
 -- one run more was read
 pub record ReadsRun (v : PlainVolume) (u x : View) (old new : Flight) : Type 0 where
   pub zone : Option ℕ
   pub count : ℕ
   pub run : IsRunOfRead v old zone count
-  pub calls : ReadsAt zone u x
+  pub calls : ReadsPlace zone u x
   pub piece : new.piece ≡ old.piece
   pub done : new.done ≡ old.done + count
   pub read : HasRead v u.zones new
@@ -133,7 +133,7 @@ pub record GoesOn (v w : PlainVolume) (u x : View) (old new : Flight) : Type 0 w
 pub record EndsRead (v w : PlainVolume) (u x : View) (old new : Flight) : Type 0 where
   pub zone : Option ℕ
   pub run : IsRunOfRead v old zone (block_count old.piece.what - old.done)
-  pub calls : ReadsAt zone u x
+  pub calls : ReadsPlace zone u x
   pub bytes : List ℕ
   pub size : length bytes ≡ 512 * sector_count old.piece.what
   pub reply : WhereTold u.zones (λ i. Got bytes ≡ reply_within (serves v i) old.piece.what)

@@ -153,11 +153,6 @@ after_flush InPlaceFlush next = InPlaceSuper
 after_flush InPlaceSuper next = InPlaceSuper
 after_flush InPlaceSuperFlush next = InPlaceSuperFlush
 
--- a commit is under way
-abbrev pub IsUnderWay : Phase → Type 0
-IsUnderWay Idle = ⊥
-IsUnderWay p = ⊤
-
 -- the phase before the flush that ends a commit. That flush is the whole commit where it is alone
 abbrev pub end_phase : Bool → Phase
 end_phase false = InPlaceSuperFlush

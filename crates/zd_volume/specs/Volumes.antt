@@ -16,7 +16,7 @@ use Rattle.zd_disk.specs.Moments.{AtEach}
 use Rattle.zd_disk.specs.OfGeometry.{IsImageOf}
 use Rattle.zd_disk.specs.Told.{WhereTold, next_count}
 use Rattle.zd_disk.specs.View.{Stays, View}
-use Rattle.zd_volume.specs.FaultCounts.{AreCalm, CountsFaults}
+use Rattle.zd_volume.specs.FaultCounts.{AreCalm, TellsFaults}
 use Rattle.zd_volume.specs.Jobs.{HasCopies, IsJobOrNone}
 use Rattle.zd_volume.specs.LeftImages.{MayBeLeft, ReadsAs}
 use Rattle.zd_volume.specs.Sets.{AreSets, Sets, device_sectors, old_tables}
@@ -67,7 +67,7 @@ pub record IsFixed (v : PlainVolume) : Type 0 where
 
 -- The writing calls since opening. While the disk's count is below its end, that of the volume is
 -- exact, and the generation has risen no more often.
-pub record CountsCalls (v : PlainVolume) (opening calls : ℕ) : Type 0 where
+pub record CountsSince (v : PlainVolume) (opening calls : ℕ) : Type 0 where
   pub few : v.since < 2 ^ 64
   pub later : opening ≤ calls
   pub count : calls < 2 ^ 64 - 1 → opening + v.since ≡ calls
@@ -94,8 +94,8 @@ MayBe v base i = MayBeLeft v.phase (sets_of v) base v.history v.since i
 pub record IsKeptVolume (v : PlainVolume) (opening now : View) : Type 0 where
   pub tells : now.told ≡ Some v.geometry
   pub fixed : IsFixed v
-  pub counted : CountsCalls v opening.calls now.calls
-  pub faulted : CountsFaults v.history v.stopped opening.faults now.faults
+  pub counted : CountsSince v opening.calls now.calls
+  pub faulted : TellsFaults v.history v.stopped opening.faults now.faults
   pub calm : v.stopped ≡ None → AreCalm v.history
   pub based : WhereTold now.zones (λ _. length (base_at opening.zones) ≡ device_sectors (sets_of v))
   pub legal : WhereTold now.zones (λ _. IsLegal (base_at opening.zones) v.history)
@@ -139,7 +139,7 @@ pub record Leads (v w : PlainVolume) (base : List (List ℕ)) (opening u x : Vie
   pub by_now : AreBy w.since w.history
   pub generation : w.since ≡ v.since + 1 → v.head.generation ≤ v.opening_generation + v.since →
       w.head.generation ≤ w.opening_generation + w.since
-  pub faulted : CountsFaults w.history w.stopped opening.faults x.faults
+  pub faulted : TellsFaults w.history w.stopped opening.faults x.faults
   pub calm : w.stopped ≡ None → AreCalm w.history
   pub legal : (r : Image) → u.zones ≡ Some r → IsLegal base v.history → IsLegal base w.history
   pub past : (k n : ℕ) (y : List ℕ) → k < v.since →

@@ -1,4 +1,4 @@
-use Rattle.std.proofs.Common.{◌≡◌, ◌≤◌, ℕ, false, length, take, replicate}
+use Rattle.std.proofs.Common.{◌≡◌, false, length, take, replicate}
 use Rattle.zd_state.proofs.marks.clear.Given as goal
 
 abbrev pub invariant-loop-i : goal.invariant-loop-i

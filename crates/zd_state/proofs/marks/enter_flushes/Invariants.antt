@@ -1,4 +1,4 @@
-use Rattle.std.proofs.Common.{◌≡◌, ◌≤◌, ◌+◌, ◌++◌, ℕ, length, take, if◌then◌else◌}
+use Rattle.std.proofs.Common.{◌≡◌, ◌≤◌, ◌+◌, ◌++◌, take, if◌then◌else◌}
 use Rattle.zd_model.specs.Plain.{Answer as answers}
 use Rattle.zd_volume.specs.Commits.{flush_entries}
 use Rattle.zd_state.proofs.marks.enter_flushes.Given as goal

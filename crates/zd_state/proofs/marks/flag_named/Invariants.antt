@@ -1,4 +1,4 @@
-use Rattle.std.proofs.Common.{◌≡◌, ◌↔◌, ◌<◌, ◌≤◌, ℕ, true, false, get_or, length}
+use Rattle.std.proofs.Common.{◌≡◌, ◌↔◌, ◌<◌, ℕ, true, false, get_or, length}
 use Rattle.zd_alloc.specs.Zones.{use_at}
 use Rattle.zd_alloc.specs.declared.uses.ZoneUse.TheVariants.{Held}
 use Rattle.zd_volume.specs.Uses.{IsMoved}

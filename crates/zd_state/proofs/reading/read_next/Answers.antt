@@ -10,7 +10,7 @@ use Rattle.zd_model.specs.Image.{run_of}
 use Rattle.zd_model.specs.Places.{sector_in}
 use Rattle.zd_model.proofs.ServedLaws.{zero_joined}
 use Rattle.zd_volume.proofs.Still.{only_nothing}
-use Rattle.zd_volume.specs.Flights.{IsRunOfRead, ReadsAt, end_sector, next_sector, stop_sector}
+use Rattle.zd_volume.specs.Flights.{IsRunOfRead, ReadsPlace, end_sector, next_sector, stop_sector}
 use Rattle.zd_volume.proofs.FlightSteps.{reads_run, run_is, stop_inside, some_sectors, zone_holds, zone_is}
 use Rattle.zd_state.proofs.reading.read_next.Goals as goal
 use Rattle.zd_state.proofs.reading.read_next.Goals.{in-Some+in_ok-read_behind, in_default}
@@ -105,7 +105,7 @@ returns-clause-ok g c =
           rw (w.flight-is, w.disk-is)
           (reads_run v c.requires.sets told f c.requires.flight c.run_at-place.result.0 c.run_at-place.result.1 run
           u (g.D.ZonedDisk.view w.read_behind.new.disk) refl
-          (subst (λ (o : Option ℕ). ReadsAt o (g.D.ZonedDisk.view c.args.disk.now)
+          (subst (λ (o : Option ℕ). ReadsPlace o (g.D.ZonedDisk.view c.args.disk.now)
           (g.D.ZonedDisk.view w.read_behind.new.disk))
           (sym w.in-Some.is) w.read_behind.ensures.read_calls)
           w.read_behind.new.into size room
@@ -123,7 +123,7 @@ returns-clause-ok g c =
           rw (w.flight-is, w.disk-is)
           (reads_run v c.requires.sets told f c.requires.flight c.run_at-place.result.0 c.run_at-place.result.1 run
           u u refl
-          (subst (λ (o : Option ℕ). ReadsAt o (g.D.ZonedDisk.view c.args.disk.now) (g.D.ZonedDisk.view c.args.disk.now))
+          (subst (λ (o : Option ℕ). ReadsPlace o (g.D.ZonedDisk.view c.args.disk.now) (g.D.ZonedDisk.view c.args.disk.now))
           (sym w.in_default.is) refl)
           w.add_zeros.new.self
           (ap length items ∙ length-append c.args.flight.now.bytes.items _

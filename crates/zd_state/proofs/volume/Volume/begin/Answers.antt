@@ -1,4 +1,4 @@
-use Rattle.std.proofs.Common.{◌≡◌, ◌<◌, ◌-◌, ◌^◌, false, sym, refl, inl, inr}
+use Rattle.std.proofs.Common.{◌≡◌, ◌<◌, ◌-◌, ◌^◌, false, refl, inl, inr}
 use Rattle.zd_volume.specs.CommitCalls.{IsBlockDue}
 use Rattle.zd_volume.specs.Uses.{dirty_from}
 use Rattle.zd_volume.proofs.CallsLeft.{dirty_none}

@@ -1,4 +1,4 @@
-use Rattle.std.proofs.Common.{◌≡◌, ◌∙◌, sym, refl}
+use Rattle.std.proofs.Common.{refl}
 use Rattle.zd_disk.proofs.ToldLaws.{OnErr-at, OnOk-at}
 use Rattle.zd_volume.proofs.CodeCalls.{flush_failed, flush_made, phase_after_flush}
 use Rattle.zd_state.proofs.volume.Volume.flush_inside.Goals as goal

@@ -1,4 +1,3 @@
-use Rattle.std.proofs.Common.{◌≡◌, ◌∙◌, sym, refl}
 use Rattle.zd_disk.proofs.ToldLaws.{OnErr-at, OnOk-at}
 use Rattle.zd_volume.proofs.CodeCalls.{at_end, end_made, ends_as, flush_failed}
 use Rattle.zd_state.proofs.volume.Volume.flush_last.Goals as goal

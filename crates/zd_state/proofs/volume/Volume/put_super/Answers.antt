@@ -1,4 +1,4 @@
-use Rattle.std.proofs.Common.{◌≡◌, ◌∙◌, sym, refl}
+use Rattle.std.proofs.Common.{refl}
 use Rattle.zd_disk.proofs.ToldLaws.{OnErr-at, OnOk-at}
 use Rattle.zd_volume.proofs.CodeCalls.{next_super, phase_after_super, super_failed, super_made}
 use Rattle.zd_state.proofs.volume.Volume.put_super.Goals as goal

@@ -1,4 +1,4 @@
-use Rattle.std.proofs.Common.{◌-◌, ℕ, List, ap₂, inl, inr, refl, sym, ap, ◌∙◌, subst, arith}
+use Rattle.std.proofs.Common.{ℕ, List, ap₂, inl, inr, refl, sym, ap, ◌∙◌, subst, arith}
 use Rattle.zd_disk.proofs.ToldLaws.{OnErr-at, OnOk-at}
 use Rattle.zd_model.specs.Plain.Answer.{Fault, Got}
 use Rattle.zd_model.specs.Room.{ListWithRoom}
