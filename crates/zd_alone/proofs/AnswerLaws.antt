@@ -1,6 +1,8 @@
 -- The answers to pieces: each kind of one, and one after another.
-use Rattle.std.proofs.Common.{◌≡◌, ℕ, ◌+◌, ◌*◌, ◌/◌, ◌%◌, ◌<◌, ◌≤◌, Bool, true, false, List, [], ◌∷◌, ◌++◌, map, refl, sym, ap, ap₂, ◌∙◌, subst, append_assoc}
-use Rattle.std.proofs.lemmas.List.{append-nil, map-append}
+use Rattle.std.proofs.Common.{◌≡◌, ℕ, ◌+◌, ◌*◌, ◌/◌, ◌%◌, ◌<◌, ◌≤◌, Bool, true, false, List, [], ◌∷◌, ◌++◌, map, suc, length, take, drop, get_or, refl, sym, ap, ap₂, ◌∙◌, subst, append_assoc}
+use Rattle.std.proofs.lemmas.List.{map-append, take-append-drop}
+use Rattle.std.proofs.Math.Seq.{drop-cons}
+use Rattle.zd_base.specs.declared.numbers.Why.{Why}
 use Rattle.zd_base.specs.Geometry.{Shape, zone_sectors}
 use Rattle.zd_base.specs.declared.layout.Layout.{Layout}
 use Rattle.zd_disk.specs.View.{OnlyReads, View}
@@ -14,7 +16,7 @@ use Rattle.zd_model.specs.declared.requests.Piece.{Piece}
 use Rattle.zd_volume.specs.Discards.{DiscardsBlocks, DropsRange, chunk_touched, end_of}
 use Rattle.zd_volume.specs.Flights.{IsPieceIn, answered, with_entry}
 use Rattle.zd_volume.specs.Volumes.{PlainVolume, sets_of}
-use Rattle.zd_alone.specs.Alone.{AnswersPieces, CanAnswer, CanAnswerBy, CanAnswerIn, EntersPiece, IsLater, IsReady, SameDevice}
+use Rattle.zd_alone.specs.Alone.{AnswersPieces, CanAnswer, CanAnswerBy, CanAnswerIn, EntersPiece, IsReady, SameDevice, StopsAt, StopsRun}
 
 module _ (from to : PlainVolume) (p : Piece) where
   -- a piece that is entered now, by a read or by its end past the device
@@ -92,7 +94,7 @@ pub answers_then : (from mid to : PlainVolume) (xs ys : List Piece) → AnswersP
 answers_then from mid to xs ys first last = record {
   entries = first.entries ++ last.entries;
   history = last.history ∙ ap (λ (h : List HistoryEntry). h ++ last.entries) first.history
-      ∙ sym (append_assoc from.history first.entries last.entries);
+      ∙ append_assoc from.history first.entries last.entries;
   marks = map-append mark_of_entry first.entries last.entries
       ∙ ap₂ (λ xs ys. xs ++ ys) first.marks last.marks
       ∙ sym (map-append mark_of_piece xs ys);
@@ -100,4 +102,19 @@ answers_then from mid to xs ys first last = record {
     geometry = last.device.geometry ∙ first.device.geometry;
     layout = last.device.layout ∙ first.device.layout;
   };
+}
+
+-- a run that stops at piece k, after the first k
+pub stops_run : (from last to : PlainVolume) (pieces : List Piece) (k : ℕ) (d : Piece) (why : Why) → k < length pieces
+    → AnswersPieces from last (take k pieces) → IsReady last → StopsAt last to (get_or pieces k d) why
+    → StopsRun from to pieces why
+stops_run from last to pieces k d why inside answers ready stops = record {
+  done = take k pieces;
+  piece = get_or pieces k d;
+  rest = drop (suc k) pieces;
+  parts = sym (take-append-drop k pieces) ∙ ap (λ (r : List Piece). take k pieces ++ r) (drop-cons pieces k d inside);
+  last = last;
+  answers = answers;
+  ready = ready;
+  stops = stops;
 }

@@ -1,8 +1,8 @@
 //! The pieces of one caller alone over a volume: reads, discards and flushes.
 #![tactic(auto)]
 
-mod answer;
 mod flush;
+mod pieces;
 mod read;
 
-pub use answer::{answer, run};
+pub use pieces::{answer, run};

@@ -11,7 +11,7 @@ ghost use Rattle.zd_state.specs.Seen.{SameSession};
 use crate::flush::flush;
 use crate::read::read;
 use std::alloc::Global;
-use zd_base::{Memory, Why};
+use zd_base::Why;
 use zd_disk::ZonedDisk;
 use zd_model::{Piece, What};
 use zd_state::Volume;
@@ -34,7 +34,7 @@ fn answer_inside<D: ZonedDisk>(
 {
     match piece.what {
         What::Read { .. } | What::ReadSectors { .. } => {
-            read(v, alloc, piece).map_err(|Memory| Why::Memory)
+            read(v, alloc, piece).map_err(|_| Why::Memory)
         }
         What::Discard { .. } => {
             v.unmap_range(piece);
@@ -68,6 +68,7 @@ pub fn answer<D: ZonedDisk>(v: &mut Volume<D>, alloc: Global, piece: &Piece) -> 
 /// memory is found, which is not entered and after which the volume goes on as it was (`Memory`); a flush
 /// that failed, which is entered so (`Device`); a flush where blocks are dirty at the last generation, which
 /// is not entered (`Generation`). Of the last two the volume is stopped.
+#[tactic(auto, using(crate::proofs::AnswerLaws::stops_run))]
 pub fn run<D: ZonedDisk>(v: &mut Volume<D>, alloc: Global, pieces: &[Piece]) -> Result<(), Why>
     requires ready { IsReady v.old.plain }
     requires pieces { AllByRecursion (CanAnswer v.old.plain) pieces.now }
