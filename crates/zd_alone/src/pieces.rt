@@ -68,7 +68,6 @@ pub fn answer<D: ZonedDisk>(v: &mut Volume<D>, alloc: Global, piece: &Piece) -> 
 /// memory is found, which is not entered and after which the volume goes on as it was (`Memory`); a flush
 /// that failed, which is entered so (`Device`); a flush where blocks are dirty at the last generation, which
 /// is not entered (`Generation`). Of the last two the volume is stopped.
-#[tactic(auto, using(crate::proofs::AnswerLaws::stops_run))]
 pub fn run<D: ZonedDisk>(v: &mut Volume<D>, alloc: Global, pieces: &[Piece]) -> Result<(), Why>
     requires ready { IsReady v.old.plain }
     requires pieces { AllByRecursion (CanAnswer v.old.plain) pieces.now }
