@@ -18,45 +18,6 @@ use Rattle.zd_volume.specs.Flights.{IsPieceIn, answered, with_entry}
 use Rattle.zd_volume.specs.Volumes.{PlainVolume, sets_of}
 use Rattle.zd_alone.specs.Alone.{AnswersPieces, CanAnswer, CanAnswerBy, CanAnswerIn, EntersPiece, IsReady, SameDevice, StopsAt, StopsRun}
 
-module _ (from to : PlainVolume) (p : Piece) where
-  -- a piece that is entered now, by a read or by its end past the device
-  pub entered : EntersPiece from to p → AnswersPieces from to (p ∷ [])
-  entered e = record {
-    entries = answered p e.reply from.since ∷ [];
-    history = ap (λ (m : PlainVolume). m.history) e.rest;
-    marks = refl;
-    device = record {
-      geometry = ap (λ (m : PlainVolume). m.geometry) e.rest;
-      layout = ap (λ (m : PlainVolume). m.head.layout) e.rest;
-    };
-  }
-
-  pub entered_ready : IsReady from → EntersPiece from to p → IsReady to
-  entered_ready ready e = record {
-    running = ap (λ (m : PlainVolume). m.stopped) e.rest ∙ ready.running;
-    idle = ap (λ (m : PlainVolume). m.phase) e.rest ∙ ready.idle;
-    no_job = ap (λ (m : PlainVolume). m.job) e.rest ∙ ready.no_job;
-  }
-
-  -- a discard
-  pub dropped : DropsRange from to p → AnswersPieces from to (p ∷ [])
-  dropped d = record {
-    entries = answered p Done from.since ∷ [];
-    history = ap (λ (m : PlainVolume). m.history) d.rest;
-    marks = refl;
-    device = record {
-      geometry = ap (λ (m : PlainVolume). m.geometry) d.rest;
-      layout = ap (λ (m : PlainVolume). m.head.layout) d.rest;
-    };
-  }
-
-  pub dropped_ready : IsReady from → DropsRange from to p → IsReady to
-  dropped_ready ready d = record {
-    running = ap (λ (m : PlainVolume). m.stopped) d.rest ∙ ready.running;
-    idle = ap (λ (m : PlainVolume). m.phase) d.rest ∙ ready.idle;
-    no_job = ap (λ (m : PlainVolume). m.job) d.rest ∙ ready.no_job;
-  }
-
 -- WHAT CAN BE ANSWERED depends on the device alone
 module _ (from to : PlainVolume) (same : SameDevice from to) (p : Piece) where
   -- the geometry and the layout of the one in place of those of the other
@@ -87,22 +48,6 @@ module _ (from to : PlainVolume) (same : SameDevice from to) (p : Piece) where
 
   pub can_still : CanAnswer from p → CanAnswer to p
   can_still can = can_by p.range can
-
--- one part after another
-pub answers_then : (from mid to : PlainVolume) (xs ys : List Piece) → AnswersPieces from mid xs
-    → AnswersPieces mid to ys → AnswersPieces from to (xs ++ ys)
-answers_then from mid to xs ys first last = record {
-  entries = first.entries ++ last.entries;
-  history = last.history ∙ ap (λ (h : List HistoryEntry). h ++ last.entries) first.history
-      ∙ append_assoc from.history first.entries last.entries;
-  marks = map-append mark_of_entry first.entries last.entries
-      ∙ ap₂ (λ xs ys. xs ++ ys) first.marks last.marks
-      ∙ sym (map-append mark_of_piece xs ys);
-  device = record {
-    geometry = last.device.geometry ∙ first.device.geometry;
-    layout = last.device.layout ∙ first.device.layout;
-  };
-}
 
 -- a run that stops at piece k, after the first k
 pub stops_run : (from last to : PlainVolume) (pieces : List Piece) (k : ℕ) (d : Piece) (why : Why) → k < length pieces
