@@ -1,2 +1,3 @@
 pub mod FlushLaws
 pub mod AnswerLaws
+pub mod PlanLaws

@@ -6,9 +6,10 @@ use Rattle.zd_disk.specs.View.{Stays, View}
 use Rattle.zd_model.specs.History.{HistoryEntry, mark_of_entry, mark_of_piece}
 use Rattle.zd_model.specs.Plain.{Answer, ends_past}
 use Rattle.zd_model.specs.Plain.Answer.{Fault}
-use Rattle.zd_model.specs.Requests.{Operation, operation_of, sector_count}
+use Rattle.zd_model.specs.Requests.{Moves, Operation, operation_of, sector_count}
 use Rattle.zd_model.specs.Requests.Operation.{Reading, Writing, Discarding, Flushing}
 use Rattle.zd_model.specs.declared.requests.Piece.{Piece}
+use Rattle.zd_model.specs.declared.requests.What.{What}
 use Rattle.zd_volume.specs.Discards.{DiscardsBlocks}
 use Rattle.zd_volume.specs.Flights.{IsPieceIn, answered, with_entry}
 use Rattle.zd_volume.specs.Sets.{device_sectors}
@@ -96,3 +97,12 @@ pub record StopsRun (from to : PlainVolume) (pieces : List Piece) (why : Why) : 
 pub record IsLater (u w : View) : Type 0 where
   pub stays : Stays u w
   pub order : u.calls ≤ w.calls
+
+-- what a caller may ask for so far: some sectors at least or a flush, and no write
+abbrev pub IsNoWrite : Operation → Type 0
+IsNoWrite Writing = ⊥
+IsNoWrite operation = ⊤
+
+pub record MayAsk (what : What) : Type 0 where
+  pub some : Moves (operation_of what) → 1 ≤ sector_count what
+  pub no_write : IsNoWrite (operation_of what)
