@@ -1,22 +1,19 @@
--- The answers to pieces: each kind of one, and one after another.
-use Rattle.std.proofs.Common.{◌≡◌, ℕ, ◌+◌, ◌*◌, ◌/◌, ◌%◌, ◌<◌, ◌≤◌, Bool, true, false, List, [], ◌∷◌, ◌++◌, map, suc, length, take, drop, get_or, refl, sym, ap, ap₂, ◌∙◌, subst, append_assoc}
-use Rattle.std.proofs.lemmas.List.{map-append, take-append-drop}
+-- What can be answered stays so, and how a run of pieces stops.
+use Rattle.std.proofs.Common.{◌≡◌, ℕ, ◌+◌, ◌*◌, ◌/◌, ◌%◌, ◌<◌, ◌≤◌, Bool, true, false, List, ◌++◌}
+use Rattle.std.proofs.Common.{suc, length, take, drop, get_or, sym, ap, ◌∙◌, subst}
+use Rattle.std.proofs.lemmas.List.{take-append-drop}
 use Rattle.std.proofs.Math.Seq.{drop-cons}
 use Rattle.zd_base.specs.declared.numbers.Why.{Why}
 use Rattle.zd_base.specs.Geometry.{Shape, zone_sectors}
 use Rattle.zd_base.specs.declared.layout.Layout.{Layout}
-use Rattle.zd_disk.specs.View.{OnlyReads, View}
-use Rattle.zd_disk.proofs.ViewLaws.{stays_then}
-use Rattle.zd_model.specs.History.{HistoryEntry, mark_of_entry, mark_of_piece}
-use Rattle.zd_model.specs.Plain.{Answer, ends_past}
-use Rattle.zd_model.specs.Plain.Answer.{Done}
+use Rattle.zd_model.specs.Plain.{ends_past}
 use Rattle.zd_model.specs.Requests.{Operation, first_sector, operation_of, sector_count}
 use Rattle.zd_model.specs.Requests.Operation.{Reading, Writing, Discarding, Flushing}
 use Rattle.zd_model.specs.declared.requests.Piece.{Piece}
-use Rattle.zd_volume.specs.Discards.{DiscardsBlocks, DropsRange, chunk_touched, end_of}
-use Rattle.zd_volume.specs.Flights.{IsPieceIn, answered, with_entry}
-use Rattle.zd_volume.specs.Volumes.{PlainVolume, sets_of}
-use Rattle.zd_alone.specs.Alone.{AnswersPieces, CanAnswer, CanAnswerBy, CanAnswerIn, EntersPiece, IsReady, SameDevice, StopsAt, StopsRun}
+use Rattle.zd_volume.specs.Discards.{chunk_touched, end_of}
+use Rattle.zd_volume.specs.Volumes.{PlainVolume}
+use Rattle.zd_alone.specs.Alone.{AnswersPieces, CanAnswer, CanAnswerBy, CanAnswerIn, IsReady}
+use Rattle.zd_alone.specs.Alone.{SameDevice, StopsAt, StopsRun}
 
 -- WHAT CAN BE ANSWERED depends on the device alone
 module _ (from to : PlainVolume) (same : SameDevice from to) (p : Piece) where
@@ -31,8 +28,8 @@ module _ (from to : PlainVolume) (same : SameDevice from to) (p : Piece) where
     range = can.range;
     some = can.some;
     device = move (λ (g : Shape) (l : Layout). first_sector p.what / zone_sectors g < l.chunks) can.device;
-    chunk = move (λ (g : Shape) (l : Layout). first_sector p.what % zone_sectors g + sector_count p.what ≤ zone_sectors g)
-        can.chunk;
+    chunk = move (λ (g : Shape) (l : Layout).
+        first_sector p.what % zone_sectors g + sector_count p.what ≤ zone_sectors g) can.chunk;
   }
   can_in Writing can = absurd can
   can_in Discarding can = record {
@@ -50,14 +47,15 @@ module _ (from to : PlainVolume) (same : SameDevice from to) (p : Piece) where
   can_still can = can_by p.range can
 
 -- a run that stops at piece k, after the first k
-pub stops_run : (from last to : PlainVolume) (pieces : List Piece) (k : ℕ) (d : Piece) (why : Why) → k < length pieces
-    → AnswersPieces from last (take k pieces) → IsReady last → StopsAt last to (get_or pieces k d) why
+pub stops_run : (from last to : PlainVolume) (pieces : List Piece) (k : ℕ) (d : Piece) (why : Why)
+    → k < length pieces → AnswersPieces from last (take k pieces) → IsReady last → StopsAt last to (get_or pieces k d) why
     → StopsRun from to pieces why
 stops_run from last to pieces k d why inside answers ready stops = record {
   done = take k pieces;
   piece = get_or pieces k d;
   rest = drop (suc k) pieces;
-  parts = sym (take-append-drop k pieces) ∙ ap (λ (r : List Piece). take k pieces ++ r) (drop-cons pieces k d inside);
+  parts = sym (take-append-drop k pieces)
+      ∙ ap (λ (r : List Piece). take k pieces ++ r) (drop-cons pieces k d inside);
   last = last;
   answers = answers;
   ready = ready;

@@ -1,30 +1,18 @@
 -- A flush: what its disk tells after each call.
-use Rattle.std.proofs.Common.{◌≡◌, ℕ, ◌+◌, ◌-◌, ◌^◌, ◌<◌, ◌≤◌, List, [], ◌∷◌, ◌++◌, map, Option, Some, None, refl, sym, ap, ap₂, ◌∙◌, subst, arith}
-use Rattle.zd_base.specs.declared.layout.Layout.{Layout}
+use Rattle.std.proofs.Common.{arith}
 use Rattle.zd_base.specs.declared.numbers.Why.{Why}
-use Rattle.zd_base.specs.Geometry.{Shape}
-use Rattle.zd_disk.specs.Told.{next_count}
-use Rattle.zd_disk.specs.View.{HasFailed, Stays, View}
+use Rattle.zd_disk.specs.View.{View}
 use Rattle.zd_disk.proofs.ViewLaws.{stays_then}
-use Rattle.zd_model.specs.History.{HistoryEntry}
-use Rattle.zd_model.specs.Plain.Answer.{Done, Fault}
-use Rattle.zd_model.specs.Requests.{operation_of}
-use Rattle.zd_model.specs.Requests.Operation.{Flushing}
-use Rattle.zd_model.specs.declared.requests.Piece.{Piece}
-use Rattle.zd_model.specs.declared.requests.What.TheVariants.{Flush}
 use Rattle.zd_volume.specs.CommitCalls.{MakesCommitCall, MakesPhaseCall}
-use Rattle.zd_volume.specs.Commits.{EndsCommit, StopsCommit, after_failed}
-use Rattle.zd_volume.specs.Flights.{answered}
-use Rattle.zd_volume.specs.Uses.{dirty_from}
 use Rattle.zd_volume.specs.Volumes.{PlainVolume}
 use Rattle.zd_volume.specs.declared.phase.Committed.{Committed}
 use Rattle.zd_volume.specs.declared.phase.Phase.{Phase}
-use Rattle.zd_commit.specs.Closed.{IsUnderWay}
 use Rattle.zd_commit.proofs.RunLaws.{one_call}
-use Rattle.zd_alone.specs.Alone.{AnswersPieces, IsLater, IsReady, StopsAt}
+use Rattle.zd_alone.specs.Alone.{IsLater}
 
 -- one call later
-phase_later : (u v w : View) → IsLater u v → (p : Phase) (m : PlainVolume) → MakesPhaseCall p m v w → IsLater u w
+phase_later : (u v w : View) → IsLater u v → (p : Phase) (m : PlainVolume) → MakesPhaseCall p m v w
+    → IsLater u w
 phase_later u v w was p m call =
     let one = one_call p m v w call in
     record {
@@ -42,4 +30,3 @@ later_on u v w was (Committed.Stopped Why.Generation) m call = record {
   stays = stays_then was.stays call.0.stays;
   order = (let n = call.0.calls in let o = was.order in omega (arith, n, o));
 }
-

@@ -17,11 +17,7 @@ use zd_model::{Piece, What};
 use zd_state::Volume;
 
 /// Answers a piece in range.
-fn answer_inside<D: ZonedDisk>(
-    v: &mut Volume<D>,
-    alloc: Global,
-    piece: &Piece,
-) -> Result<(), Why>
+fn answer_inside<D: ZonedDisk>(v: &mut Volume<D>, alloc: Global, piece: &Piece) -> Result<(), Why>
     requires ready { IsReady v.old.plain }
     requires piece { CanAnswerIn v.old.plain piece.now (operation_of piece.now.what) }
     requires spare { 0 < v.old.spare }

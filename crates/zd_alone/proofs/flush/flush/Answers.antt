@@ -1,4 +1,4 @@
-use Rattle.std.proofs.Common.{◌≡◌, ◌∙◌, ap, refl, arith, None}
+use Rattle.std.proofs.Common.{◌∙◌, ap, refl, arith}
 use Rattle.zd_volume.specs.Volumes.{PlainVolume}
 use Rattle.zd_commit.proofs.RunLaws.{fewer_left, goes_on}
 use Rattle.zd_volume.specs.declared.phase.Committed.{Committed}
