@@ -4,7 +4,7 @@ ghost use Rattle.std.specs.Prelude.{◌≡◌, ◌≤◌, None, OnOk, IfErr, len
 ghost use Rattle.zd_commit.specs.Closed.{IsCommitted, StopsCommitting};
 ghost use Rattle.zd_disk.specs.View.{HasFailed, IsDurable, Made, Stays};
 ghost use Rattle.zd_base.specs.declared.numbers.Why.{Why};
-ghost use Rattle.zd_state.specs.Seen.{SameSession};
+ghost use Rattle.zd_state.specs.Seen.{SameSession, entries_of_commit};
 ghost use Rattle.zd_volume.specs.CommitCalls.{EndsDurable, MakesCommitCall, StopsByDevice};
 ghost use Rattle.zd_volume.specs.Commits.{AreFlushes, CommitStep, calls_left};
 
@@ -22,7 +22,7 @@ pub fn step<D: ZonedDisk>(v: &mut Volume<D>, flushes: &[Piece]) -> Committed
     ensures step { CommitStep v.old.plain v.new.plain flushes.now result }
     ensures call { MakesCommitCall result v.old.plain (D.view v.old.disk) (D.view v.new.disk) }
     ensures durable { EndsDurable result (D.view v.new.disk) }
-    ensures same { SameSession (length flushes.now) v.old v.new }
+    ensures same { SameSession (entries_of_commit result (length flushes.now)) v.old v.new }
     ensures cause { StopsByDevice result (D.view v.old.disk) (D.view v.new.disk) }
 {
     v.commit_one(flushes)

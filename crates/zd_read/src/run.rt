@@ -4,7 +4,7 @@ ghost use Rattle.std.specs.Prelude.{◌≡◌, ℕ, ◌+◌, ◌/◌, ◌%◌, �
 ghost use Rattle.zd_disk.specs.View.{OnlyReads};
 ghost use Rattle.zd_model.specs.Tables.{NamesZone};
 ghost use Rattle.zd_read.specs.Runs.{IsReadFrom, IsRunFrom};
-ghost use Rattle.zd_state.specs.Seen.{SameSession};
+ghost use Rattle.zd_state.specs.Seen.{SameSession, entries_of_read};
 ghost use Rattle.zd_volume.specs.Flights.{IsFlight, ReadStep};
 
 use zd_base::{ChunkNo, ZoneNo};
@@ -62,7 +62,7 @@ pub fn step<D: ZonedDisk>(v: &mut Volume<D>, flight: &mut Flight) -> Ran
     ensures step { ReadStep v.old.plain v.new.plain (D.view v.old.disk) (D.view v.new.disk)
         flight.old flight.new result }
     ensures reads { OnlyReads (D.view v.old.disk) (D.view v.new.disk) }
-    ensures same { SameSession 1 v.old v.new }
+    ensures same { SameSession (entries_of_read result) v.old v.new }
 {
     v.read_run(flight)
 }

@@ -1,6 +1,8 @@
 -- What contracts see of a volume.
 use Rattle.std.specs.Prelude.{◌≡◌, ℕ, ◌+◌, ◌≤◌}
 use Rattle.zd_volume.specs.Volumes.{PlainVolume}
+use Rattle.zd_volume.specs.declared.flight.Ran.{Ran}
+use Rattle.zd_volume.specs.declared.phase.Committed.{Committed}
 
 -- a volume without its disk: its values, and how many entries, and blocks of a write, it takes
 -- without memory
@@ -22,3 +24,14 @@ pub record SameSession {D : Type 0} (entries : ℕ) (old new : Seen D) : Type 0 
   pub opening : new.opening ≡ old.opening
   pub room : new.room ≡ old.room
   pub spare : old.spare ≤ new.spare + entries
+
+-- how many entries a step of a read takes, and one of a commit for which so many flushes wait: none
+-- while more is left
+abbrev pub entries_of_read : Ran → ℕ
+entries_of_read Ran.More = 0
+entries_of_read Ran.Entered = 1
+
+abbrev pub entries_of_commit : Committed → ℕ → ℕ
+entries_of_commit Committed.More flushes = 0
+entries_of_commit Committed.Ended flushes = flushes
+entries_of_commit (Committed.Stopped why) flushes = flushes

@@ -1,7 +1,7 @@
 //! Commits, one call of the disk a step.
 
 ghost use Rattle.std.specs.Prelude.{◌≡◌, ◌+◌, ◌≤◌, ◌<◌, None, Some, length};
-ghost use Rattle.zd_state.specs.Seen.{SameSession};
+ghost use Rattle.zd_state.specs.Seen.{SameSession, entries_of_commit};
 ghost use Rattle.zd_volume.specs.CommitCalls.{EndsDurable, FlushesOnce, IsBlockDue, MakesCommitCall};
 ghost use Rattle.zd_volume.specs.CommitCalls.{StopsByDevice, WritesBlock, WritesSuper};
 ghost use Rattle.zd_volume.specs.Commits.{AreFlushes, CommitStep, IsLastCall};
@@ -65,7 +65,7 @@ impl<D: ZonedDisk> Volume<D> {
         ensures call { WritesBlock self.old.plain (first_zone in_place (second (sets_of self.old.plain))) k
             (D.view self.old.disk) (D.view self.new.disk) }
         ensures durable { EndsDurable result (D.view self.new.disk) }
-        ensures same { SameSession (length flushes.now) self.old self.new }
+        ensures same { SameSession (entries_of_commit result (length flushes.now)) self.old self.new }
         ensures cause { StopsByDevice result (D.view self.old.disk) (D.view self.new.disk) }
     {
         let next = self.state.next_dirty(k + 1);
@@ -90,7 +90,7 @@ impl<D: ZonedDisk> Volume<D> {
         ensures call { WritesSuper self.old.plain (first_zone in_place (second (sets_of self.old.plain)))
             (D.view self.old.disk) (D.view self.new.disk) }
         ensures durable { EndsDurable result (D.view self.new.disk) }
-        ensures same { SameSession (length flushes.now) self.old self.new }
+        ensures same { SameSession (entries_of_commit result (length flushes.now)) self.old self.new }
         ensures cause { StopsByDevice result (D.view self.old.disk) (D.view self.new.disk) }
     {
         let first = self.state.first_zone(in_place);
@@ -113,7 +113,7 @@ impl<D: ZonedDisk> Volume<D> {
         ensures step { CommitStep self.old.plain self.new.plain flushes.now result }
         ensures call { FlushesOnce (D.view self.old.disk) (D.view self.new.disk) }
         ensures durable { EndsDurable result (D.view self.new.disk) }
-        ensures same { SameSession (length flushes.now) self.old self.new }
+        ensures same { SameSession (entries_of_commit result (length flushes.now)) self.old self.new }
         ensures cause { StopsByDevice result (D.view self.old.disk) (D.view self.new.disk) }
     {
         let next = self.state.next_dirty(1);
@@ -135,7 +135,7 @@ impl<D: ZonedDisk> Volume<D> {
         ensures step { CommitStep self.old.plain self.new.plain flushes.now result }
         ensures call { FlushesOnce (D.view self.old.disk) (D.view self.new.disk) }
         ensures durable { EndsDurable result (D.view self.new.disk) }
-        ensures same { SameSession (length flushes.now) self.old self.new }
+        ensures same { SameSession (entries_of_commit result (length flushes.now)) self.old self.new }
         ensures cause { StopsByDevice result (D.view self.old.disk) (D.view self.new.disk) }
     {
         let flushed = self.disk.flush();
@@ -157,7 +157,7 @@ impl<D: ZonedDisk> Volume<D> {
         ensures step { CommitStep self.old.plain self.new.plain flushes.now result }
         ensures call { MakesCommitCall result self.old.plain (D.view self.old.disk) (D.view self.new.disk) }
         ensures durable { EndsDurable result (D.view self.new.disk) }
-        ensures same { SameSession (length flushes.now) self.old self.new }
+        ensures same { SameSession (entries_of_commit result (length flushes.now)) self.old self.new }
         ensures cause { StopsByDevice result (D.view self.old.disk) (D.view self.new.disk) }
     {
         let Some(k) = self.state.next_dirty(1) else {
@@ -184,7 +184,7 @@ impl<D: ZonedDisk> Volume<D> {
         ensures step { CommitStep self.old.plain self.new.plain flushes.now result }
         ensures call { MakesCommitCall result self.old.plain (D.view self.old.disk) (D.view self.new.disk) }
         ensures durable { EndsDurable result (D.view self.new.disk) }
-        ensures same { SameSession (length flushes.now) self.old self.new }
+        ensures same { SameSession (entries_of_commit result (length flushes.now)) self.old self.new }
         ensures cause { StopsByDevice result (D.view self.old.disk) (D.view self.new.disk) }
     {
         match self.state.phase() {

@@ -5,7 +5,7 @@ ghost use Rattle.std.specs.Prelude.{IfSome, IsSomeAnd, OnOk, OnErr};
 ghost use Rattle.zd_disk.specs.Told.{IsInside, WhereTold};
 ghost use Rattle.zd_disk.specs.View.{Fails, OnlyReads, ReadsOnce};
 ghost use Rattle.zd_model.specs.Image.{run_of};
-ghost use Rattle.zd_state.specs.Seen.{SameSession};
+ghost use Rattle.zd_state.specs.Seen.{SameSession, entries_of_read};
 ghost use Rattle.zd_tables.specs.Rules.{AreBelow};
 ghost use Rattle.zd_volume.specs.Flights.{FailsRun, IsFlight, ReadStep, ReadsRun, chunk_of};
 ghost use Rattle.zd_volume.specs.Flights.{end_sector, next_sector, tables_now};
@@ -130,7 +130,7 @@ impl<D: ZonedDisk> Volume<D> {
         ensures step { ReadStep self.old.plain self.new.plain (D.view self.old.disk) (D.view self.new.disk)
             flight.old flight.new result }
         ensures reads { OnlyReads (D.view self.old.disk) (D.view self.new.disk) }
-        ensures same { SameSession 1 self.old self.new }
+        ensures same { SameSession (entries_of_read result) self.old self.new }
     {
         let (_, blocks) = flight.piece.cover();
         if read_next(&mut self.disk, &self.state, flight).is_err() {

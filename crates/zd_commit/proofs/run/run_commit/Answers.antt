@@ -17,8 +17,8 @@ loop-why-preserved g c =
           (g.D.ZonedDisk.view c.loop-why.v.disk) (g.D.ZonedDisk.view c.commit_one.new.self.disk) was.1 c.sound.ensures
           step c.in-More.ensures.call,
       record {
-        opening = c.commit_one.ensures.same.opening ∙ was.2.opening;
-        room = c.commit_one.ensures.same.room ∙ was.2.room;
-        spare = (let a = c.commit_one.ensures.same.spare in let b = was.2.spare in omega (arith, a, b));
+        opening = c.in-More.ensures.same.opening ∙ was.2.opening;
+        room = c.in-More.ensures.same.room ∙ was.2.room;
+        spare = (let a = c.in-More.ensures.same.spare in let b = was.2.spare in omega (arith, a, b));
       },
     )

@@ -1,0 +1,3 @@
+pub mod FlushLaws
+pub mod AnswerLaws
+pub mod PlanLaws
