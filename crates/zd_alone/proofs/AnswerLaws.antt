@@ -10,9 +10,9 @@ use Rattle.zd_model.specs.Plain.{ends_past}
 use Rattle.zd_model.specs.Requests.{Operation, first_sector, operation_of, sector_count}
 use Rattle.zd_model.specs.Requests.Operation.{Reading, Writing, Discarding, Flushing}
 use Rattle.zd_model.specs.declared.requests.Piece.{Piece}
-use Rattle.zd_volume.specs.Discards.{chunk_touched, end_of}
+use Rattle.zd_volume.specs.Discards.{chunk_touched, range_end}
 use Rattle.zd_volume.specs.Volumes.{PlainVolume}
-use Rattle.zd_alone.specs.Alone.{AnswersPieces, CanAnswer, CanAnswerBy, CanAnswerIn, IsReady}
+use Rattle.zd_alone.specs.Alone.{AnswersPieces, CanAnswer, CanAnswerBy, CanAnswerIn, IsAtRest}
 use Rattle.zd_alone.specs.Alone.{SameDevice, StopsAt, StopsRun}
 
 -- WHAT CAN BE ANSWERED depends on the device alone
@@ -34,7 +34,7 @@ module _ (from to : PlainVolume) (same : SameDevice from to) (p : Piece) where
   can_in Writing can = absurd can
   can_in Discarding can = record {
     discards = can.discards;
-    inside = move (λ (g : Shape) (l : Layout). end_of g.zone_blocks p.what ≤ g.zone_blocks) can.inside;
+    inside = move (λ (g : Shape) (l : Layout). range_end g.zone_blocks p.what ≤ g.zone_blocks) can.inside;
     there = move (λ (g : Shape) (l : Layout). chunk_touched g.zone_blocks p.what < l.chunks) can.there;
   }
   can_in Flushing can = tt
@@ -48,7 +48,7 @@ module _ (from to : PlainVolume) (same : SameDevice from to) (p : Piece) where
 
 -- a run that stops at piece k, after the first k
 pub stops_run : (from last to : PlainVolume) (pieces : List Piece) (k : ℕ) (d : Piece) (why : Why)
-    → k < length pieces → AnswersPieces from last (take k pieces) → IsReady last → StopsAt last to (get_or pieces k d) why
+    → k < length pieces → AnswersPieces from last (take k pieces) → IsAtRest last → StopsAt last to (get_or pieces k d) why
     → StopsRun from to pieces why
 stops_run from last to pieces k d why inside answers ready stops = record {
   done = take k pieces;

@@ -18,7 +18,7 @@ use Rattle.zd_model.specs.declared.requests.What.TheVariants.{WriteSectors}
 use Rattle.zd_model.proofs.ArrayLaws.{ends_inside, ends_within}
 use Rattle.zd_model.proofs.CutLaws.{cut_up, in_one_chunk, parts_cut, parts_past, parts_within}
 use Rattle.zd_model.proofs.SectorLaws.{each-append}
-use Rattle.zd_volume.specs.Discards.{end_of}
+use Rattle.zd_volume.specs.Discards.{range_end}
 use Rattle.zd_volume.specs.Flights.{chunk_of}
 use Rattle.zd_volume.specs.Sets.{AreSets, device_sectors}
 use Rattle.zd_volume.specs.Volumes.{PlainVolume, sets_of}
@@ -45,7 +45,7 @@ module _ (v : PlainVolume) (are : AreSets (sets_of v)) where
 
   -- the blocks that a part touches end in its chunk
   ends_in_chunk : (w : What) → first_sector w % (8 * z) + sector_count w ≤ 8 * z
-      → end_of z w ≤ z
+      → range_end z w ≤ z
   ends_in_chunk w inside =
       let order : z * 8 ≡ 8 * z = omega arith in
       let split : first_sector w % (8 * z)

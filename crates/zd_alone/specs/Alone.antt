@@ -36,7 +36,7 @@ abbrev pub CanAnswer : PlainVolume → Piece → Type 0
 CanAnswer v p = CanAnswerBy v p p.range
 
 -- the volume goes on, and neither a commit nor a job is under way
-pub record IsReady (v : PlainVolume) : Type 0 where
+pub record IsAtRest (v : PlainVolume) : Type 0 where
   pub running : v.stopped ≡ None
   pub idle : v.phase ≡ Idle
   pub no_job : v.job ≡ None
@@ -90,7 +90,7 @@ pub record StopsRun (from to : PlainVolume) (pieces : List Piece) (why : Why) : 
   pub parts : pieces ≡ done ++ piece ∷ rest
   pub last : PlainVolume
   pub answers : AnswersPieces from last done
-  pub ready : IsReady last
+  pub ready : IsAtRest last
   pub stops : StopsAt last to piece why
 
 -- what a disk tells later: the geometry stays, and no count falls

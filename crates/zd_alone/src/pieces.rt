@@ -2,7 +2,7 @@
 
 ghost use Rattle.std.specs.Prelude.{◌≡◌, ◌<◌, ◌≤◌, ◌∷◌, [], false, length, OnOk, IfErr};
 ghost use Rattle.std.specs.List.{AllByRecursion};
-ghost use Rattle.zd_alone.specs.Alone.{AnswersPieces, CanAnswer, CanAnswerIn, IsLater, IsReady, StopsAt, StopsRun};
+ghost use Rattle.zd_alone.specs.Alone.{AnswersPieces, CanAnswer, CanAnswerIn, IsLater, IsAtRest, StopsAt, StopsRun};
 ghost use Rattle.zd_base.specs.declared.numbers.Why.{Why};
 ghost use Rattle.zd_disk.specs.View.{HasFailed};
 ghost use Rattle.zd_model.specs.Requests.{operation_of};
@@ -18,11 +18,11 @@ use zd_state::Volume;
 
 /// Answers a piece in range.
 fn answer_inside<D: ZonedDisk>(v: &mut Volume<D>, alloc: Global, piece: &Piece) -> Result<(), Why>
-    requires ready { IsReady v.old.plain }
+    requires ready { IsAtRest v.old.plain }
     requires piece { CanAnswerIn v.old.plain piece.now (operation_of piece.now.what) }
     requires spare { 0 < v.old.spare }
     ensures ok { OnOk result (AnswersPieces v.old.plain v.new.plain (piece.now ∷ [])) }
-    ensures ready { OnOk result (IsReady v.new.plain) }
+    ensures ready { OnOk result (IsAtRest v.new.plain) }
     ensures err { IfErr result (StopsAt v.old.plain v.new.plain piece.now) }
     ensures later { IsLater (D.view v.old.disk) (D.view v.new.disk) }
     ensures same { SameSession 1 v.old v.new }
@@ -43,11 +43,11 @@ fn answer_inside<D: ZonedDisk>(v: &mut Volume<D>, alloc: Global, piece: &Piece) 
 
 /// Answers a piece. A read that fails is entered so, and is answered. An error is that of `run`.
 pub fn answer<D: ZonedDisk>(v: &mut Volume<D>, alloc: Global, piece: &Piece) -> Result<(), Why>
-    requires ready { IsReady v.old.plain }
+    requires ready { IsAtRest v.old.plain }
     requires piece { CanAnswer v.old.plain piece.now }
     requires spare { 0 < v.old.spare }
     ensures ok { OnOk result (AnswersPieces v.old.plain v.new.plain (piece.now ∷ [])) }
-    ensures ready { OnOk result (IsReady v.new.plain) }
+    ensures ready { OnOk result (IsAtRest v.new.plain) }
     ensures err { IfErr result (StopsAt v.old.plain v.new.plain piece.now) }
     ensures later { IsLater (D.view v.old.disk) (D.view v.new.disk) }
     ensures same { SameSession 1 v.old v.new }
@@ -65,11 +65,11 @@ pub fn answer<D: ZonedDisk>(v: &mut Volume<D>, alloc: Global, piece: &Piece) -> 
 /// that failed, which is entered so (`Device`); a flush where blocks are dirty at the last generation, which
 /// is not entered (`Generation`). Of the last two the volume is stopped.
 pub fn run<D: ZonedDisk>(v: &mut Volume<D>, alloc: Global, pieces: &[Piece]) -> Result<(), Why>
-    requires ready { IsReady v.old.plain }
+    requires ready { IsAtRest v.old.plain }
     requires pieces { AllByRecursion (CanAnswer v.old.plain) pieces.now }
     requires spare { length pieces.now ≤ v.old.spare }
     ensures ok { OnOk result (AnswersPieces v.old.plain v.new.plain pieces.now) }
-    ensures ready { OnOk result (IsReady v.new.plain) }
+    ensures ready { OnOk result (IsAtRest v.new.plain) }
     ensures err { IfErr result (StopsRun v.old.plain v.new.plain pieces.now) }
     ensures later { IsLater (D.view v.old.disk) (D.view v.new.disk) }
     ensures same { SameSession (length pieces.now) v.old v.new }

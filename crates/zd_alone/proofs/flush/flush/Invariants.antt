@@ -1,5 +1,5 @@
 use Rattle.std.proofs.Common.{◌≡◌, ◌∷◌, [], None}
-use Rattle.zd_commit.specs.Closed.{IsUnderWay}
+use Rattle.zd_commit.specs.Closed.{IsInCommit}
 use Rattle.zd_state.specs.Seen.{SameSession}
 use Rattle.zd_volume.specs.Commits.{calls_left}
 use Rattle.zd_alone.specs.Alone.{IsLater}
@@ -10,7 +10,7 @@ invariant-loop-why g l =
     let view = g.D.ZonedDisk.view in
     record {
       running : l.v.plain.stopped ≡ None;
-      under_way : IsUnderWay l.fn.v.plain l.v.plain (view l.fn.v.disk) (view l.v.disk);
+      under_way : IsInCommit l.fn.v.plain l.v.plain (view l.fn.v.disk) (view l.v.disk);
       later : IsLater (view l.fn.v.disk) (view l.v.disk);
       same : SameSession 0 l.fn.v l.v;
       flushes : l.flushes ≡ l.fn.piece ∷ [];
