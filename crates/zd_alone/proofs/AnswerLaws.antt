@@ -48,7 +48,8 @@ module _ (from to : PlainVolume) (same : SameDevice from to) (p : Piece) where
 
 -- a run that stops at piece k, after the first k
 pub stops_run : (from last to : PlainVolume) (pieces : List Piece) (k : ℕ) (d : Piece) (why : Why)
-    → k < length pieces → AnswersPieces from last (take k pieces) → IsAtRest last → StopsAt last to (get_or pieces k d) why
+    → k < length pieces → AnswersPieces from last (take k pieces) → IsAtRest last
+    → StopsAt last to (get_or pieces k d) why
     → StopsRun from to pieces why
 stops_run from last to pieces k d why inside answers ready stops = record {
   done = take k pieces;
