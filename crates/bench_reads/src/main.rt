@@ -4,42 +4,120 @@
 //! image file, or by the bare calls of the disk, in its conventional zones. It prints how many were read.
 #![tactic(auto)]
 
-ghost use Rattle.std.specs.Prelude.{◌≡◌, ◌<◌, ◌≤◌, ◌+◌, ◌*◌};
-ghost use Rattle.zd_alone.specs.Alone.{CanAnswer, IsAtRest};
+ghost use Rattle.std.specs.Prelude.{◌≡◌, false, length, Some};
+ghost use Rattle.zd_model.specs.declared.requests.What.TheVariants.{Read};
 
 use std::alloc::Global;
 use std::fs::File;
 use std::process::ExitCode;
 use std::{env, io};
 use zd_alone::answer;
-use zd_base::{BLOCK, ZoneNo};
+use zd_base::{BLOCK, Geometry, ZoneNo};
 use zd_disk::{FileDisk, ZonedDisk};
 use zd_model::{Piece, What};
 use zd_open::open_volume;
-use zd_state::Volume;
+use zd_state::{Phase, Volume};
 
 /// The sectors of a block.
 const BLOCK_SECTORS: u32 = 8;
+
+/// Reads block `at` of the conventional zones, if there is one, by one call.
+fn read_block(disk: &mut FileDisk<File>, geometry: &Geometry, at: u64, into: &mut [u8]) -> bool
+    requires told { disk.old.told ≡ Some geometry.now }
+    requires size { length into.old ≡ 4096 }
+    ensures told { disk.new.told ≡ Some geometry.now }
+    ensures size { length into.new ≡ 4096 }
+{
+    let zone_blocks = u64::from(geometry.zone_blocks());
+    let zone = at / zone_blocks;
+    if zone >= u64::from(geometry.conv()) {
+        return false;
+    }
+    let start = BLOCK_SECTORS * (at % zone_blocks) as u32;
+    disk.read(ZoneNo(zone as u32), start, into).is_ok()
+}
 
 /// Reads so many blocks of the conventional zones by bare calls. The answer is how many were read.
 fn read_bare(disk: &mut FileDisk<File>, reads: u32, step: u64) -> u32 {
     let Ok(geometry) = disk.geometry() else {
         return 0;
     };
-    let zone_blocks = u64::from(geometry.zone_blocks());
-    let blocks = u64::from(geometry.conv()) * zone_blocks;
+    let blocks = u64::from(geometry.conv()) * u64::from(geometry.zone_blocks());
     let mut block = [0; BLOCK];
-    let mut done = 0;
+    let mut done = 0u32;
     let mut at = 0;
     for _ in 0..reads {
-        let zone = ZoneNo((at / zone_blocks) as u32);
-        let start = BLOCK_SECTORS * (at % zone_blocks) as u32;
-        if disk.read(zone, start, &mut block).is_ok() {
-            done += 1;
+        if read_block(disk, &geometry, at, &mut block) {
+            done = done.saturating_add(1);
         }
-        at = (at + step % blocks) % blocks;
+        at = next_of(at, step, blocks);
     }
     done
+}
+
+/// The read of one block.
+fn read_of(block: u64) -> Piece
+    ensures { result ≡ record {
+      caller = 0;
+      request = 1;
+      piece = 0;
+      what = Read block 1;
+      range = false;
+    } }
+{
+    Piece {
+        caller: 0,
+        request: 1,
+        piece: 0,
+        what: What::Read { block, count: 1 },
+        range: false,
+    }
+}
+
+/// Reads a block of the volume, if there is one and the volume can go on.
+fn read_one<D: ZonedDisk>(volume: &mut Volume<D>, alloc: Global, block: u64) -> bool {
+    let blocks = u64::from(volume.layout().chunks) * u64::from(volume.geometry().zone_blocks());
+    if volume.stopped().is_some() || volume.phase() != Phase::Idle || volume.job().is_some() {
+        return false;
+    }
+    if volume.spare() == 0 || block >= blocks {
+        return false;
+    }
+    answer(volume, alloc, &read_of(block)).is_ok()
+}
+
+/// Reads so many blocks of a volume. The answer is how many were read.
+fn read_volume<D: ZonedDisk>(alloc: Global, disk: D, reads: u32, step: u64) -> u32 {
+    let Ok(mut volume) = open_volume(alloc, disk) else {
+        return 0;
+    };
+    if volume.reserve(reads as usize, 0).is_err() {
+        return 0;
+    }
+    let blocks = u64::from(volume.layout().chunks) * u64::from(volume.geometry().zone_blocks());
+    let mut done = 0u32;
+    let mut at = 0;
+    for _ in 0..reads {
+        if read_one(&mut volume, alloc, at) {
+            done = done.saturating_add(1);
+        }
+        at = next_of(at, step, blocks);
+    }
+    done
+}
+
+/// The next place, round and round among so many.
+fn next_of(at: u64, step: u64, count: u64) -> u64 {
+    if count == 0 {
+        return 0;
+    }
+    let step = step % count;
+    let room = count - at % count;
+    if step < room {
+        at % count + step
+    } else {
+        step - room
+    }
 }
 
 /// The words behind the program's name.
@@ -59,10 +137,10 @@ fn measured(rt: &HostRuntime) -> Option<u32> {
             let mut disk = FileDisk::at(rt, image);
             let reads = reads.parse().ok()?;
             let step = step.parse().ok()?;
-            if how.as_str() == "bare" {
-                Some(read_bare(&mut disk, reads, step))
-            } else {
-                None
+            match how.as_str() {
+                "bare" => Some(read_bare(&mut disk, reads, step)),
+                "volume" => Some(read_volume(rt.alloc(), disk, reads, step)),
+                _ => None,
             }
         }
         _ => None,
