@@ -259,6 +259,12 @@ module _ (v : PlainVolume) (opening d : View) (was : IsKeptVolume v opening d) (
             record {
               read = read_end j new.read;
               pointers = new.pointers;
+              whole = record {
+                at = λ z seq held. new.whole.at z seq (elim (are_used.held z held) [
+                  | inl n ↦ was.fixed.uses.named z n
+                  | inr t ↦ was.fixed.uses.target z t
+                ]);
+              };
               copies = copies v.job j new.copies;
             };
         before = λ r i c one known s t.

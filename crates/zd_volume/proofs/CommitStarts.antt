@@ -50,6 +50,7 @@ kept_begin v m opening d was idle is small =
               served = read.served;
             };
             pointers = now.pointers;
+            whole = now.whole;
             copies = now.copies;
           };
       stops = λ _ r c t may.

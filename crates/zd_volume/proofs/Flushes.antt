@@ -63,6 +63,7 @@ module _ (v : PlainVolume) (opening d e : View) (runs : v.stopped ≡ None) (was
             record {
               read = is.reads (base_at opening.zones) v.history j new.read;
               pointers = new.pointers;
+              whole = new.whole;
               copies = new.copies;
             };
         before = λ r i c one known w t.

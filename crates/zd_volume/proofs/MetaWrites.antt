@@ -27,7 +27,7 @@ use Rattle.zd_volume.proofs.Choices.{data_others}
 use Rattle.zd_volume.proofs.FailedCalls.{failed_with, kept_failed_call}
 use Rattle.zd_volume.proofs.FaultEntries.{faults_later}
 use Rattle.zd_volume.proofs.Images.{left_step}
-use Rattle.zd_volume.proofs.InPhases.{both_at, by_next, fixed_in, pointers_stay, safe_now}
+use Rattle.zd_volume.proofs.InPhases.{both_at, by_next, fixed_in, pointers_stay, whole_stay, safe_now}
 use Rattle.zd_volume.proofs.JobLaws.{copies_stay}
 use Rattle.zd_volume.proofs.Kept.{kept_call, told_before}
 use Rattle.zd_volume.proofs.Reading.{read_step}
@@ -82,6 +82,9 @@ module _ (v : PlainVolume) (opening d e : View) (runs : v.stopped ≡ None) (was
         pointers = pointers_stay v.geometry v.pointers z r j
             (let at = leads.zone in let room = was.fixed.sets.fits.conventional_data in omega (arith, at, room))
             w.others now.pointers;
+        whole = whole_stay v.geometry v.division.zones z r j
+            (let at = leads.zone in let room = was.fixed.sets.fits.conventional_data in omega (arith, at, room))
+            w.others now.whole;
         copies = copies_stay (sets_of v) was.fixed.sets v.pointers v.buffer v.job was.fixed.job
             (base_at opening.zones) v.history r j stay now.copies;
       }
