@@ -32,13 +32,13 @@ second_there g shape bit t zone first end inside d = elim (one_or_two g shape) [
   | inr two ↦ two.1
 ]
 
--- the blocks of a zone's range are cleared, where there is a zone
-pub gives_in : (g : Shape) (l : Layout) (o : Option ℕ) (z first end : ℕ) → o ≡ Some z → (old new : List ℕ)
-    (dirty marked : List Bool) (changed : ChangedParts) → SetsBits false g l z first end old new
-    → TellsParts false g l z first end old new changed → MarksParts (bits_block g l z) changed dirty marked
-    → GivesBitsIn false g l o first end old new dirty marked
-gives_in g l o z first end is old new dirty marked changed bits tells marks =
-    subst (λ (p : Option ℕ). GivesBitsIn false g l p first end old new dirty marked) (sym is)
+-- the blocks of a zone's range have this bit, where there is a zone
+pub gives_in : (bit : Bool) (g : Shape) (l : Layout) (o : Option ℕ) (z first end : ℕ) → o ≡ Some z → (old new : List ℕ)
+    (dirty marked : List Bool) (changed : ChangedParts) → SetsBits bit g l z first end old new
+    → TellsParts bit g l z first end old new changed → MarksParts (bits_block g l z) changed dirty marked
+    → GivesBitsIn bit g l o first end old new dirty marked
+gives_in bit g l o z first end is old new dirty marked changed bits tells marks =
+    subst (λ (p : Option ℕ). GivesBitsIn bit g l p first end old new dirty marked) (sym is)
     (record { changed = changed; bits = bits; tells = tells; marks = marks })
 
 -- THE STEPS OF A DISCARD: the chunk's zone, its buffer, its class, the entry

@@ -7,7 +7,8 @@ ghost use Rattle.zd_base.specs.Geometry.{IsShape, per, zone_count};
 ghost use Rattle.zd_base.specs.Layout.{Fits, used_blocks};
 ghost use Rattle.zd_model.specs.Plain.{Answer as answers};
 ghost use Rattle.zd_state.specs.Seen.{SameSession};
-ghost use Rattle.zd_tables.specs.Changes.{bits_block};
+ghost use Rattle.zd_tables.specs.Changes.{SetsBits, TellsParts, bits_block};
+ghost use Rattle.zd_tables.specs.Held.{SamePlace};
 ghost use Rattle.zd_tables.specs.Rules.{FollowRules};
 ghost use Rattle.zd_tables.specs.Tables.{tables_in};
 ghost use Rattle.zd_volume.specs.Discards.{DiscardsBlocks, DropsRange, NoJobOn, chunk_touched};
@@ -24,7 +25,7 @@ use crate::volume::Volume;
 use zd_base::{ChunkNo, Geometry, Layout, ZoneNo};
 use zd_disk::ZonedDisk;
 use zd_model::{Entry, Piece, Reply};
-use zd_tables::ChangedParts;
+use zd_tables::{ChangedParts, VolumeTables};
 
 /// Flags those of two blocks that changed, of which this is the first.
 fn mark(flags: &mut [bool], block: u32, changed: ChangedParts)
@@ -37,6 +38,29 @@ fn mark(flags: &mut [bool], block: u32, changed: ChangedParts)
     }
     if changed.second {
         flags[block as usize + 1] = true;
+    }
+}
+
+/// Makes so many blocks of a zone, from this one on, valid or invalid. See `VolumeTables::set_range`.
+fn give_range(
+    tables: &mut VolumeTables,
+    zone: ZoneNo,
+    first: u32,
+    count: u32,
+    valid: bool,
+) -> ChangedParts
+    requires zone { zone < zone_count tables.old.geometry }
+    requires inside { first + count ≤ tables.old.geometry.zone_blocks }
+    ensures blocks { SetsBits valid tables.old.geometry tables.old.layout zone first (first + count)
+        tables.old.bytes tables.new.bytes }
+    ensures parts { TellsParts valid tables.old.geometry tables.old.layout zone first (first + count)
+        tables.old.bytes tables.new.bytes result }
+    ensures same { SamePlace tables.old tables.new }
+{
+    if valid {
+        tables.set_range(zone, first, count)
+    } else {
+        tables.clear_range(zone, first, count)
     }
 }
 
@@ -76,11 +100,7 @@ impl VolumeState {
     {
         if let Some(zone) = zone {
             let block = bits_block(self.tables.geometry(), self.tables.layout(), zone);
-            let changed = if valid {
-                self.tables.set_range(zone, first, count)
-            } else {
-                self.tables.clear_range(zone, first, count)
-            };
+            let changed = give_range(&mut self.tables, zone, first, count, valid);
             mark(&mut self.dirty, block, changed);
         }
     }

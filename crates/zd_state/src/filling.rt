@@ -21,7 +21,7 @@ pub(crate) fn is_in_part(what: What, block: u64) -> bool
 {
     let first = first_sector(what);
     let from = BLOCK_SECTORS * u128::from(block);
-    !(first <= from && from + BLOCK_SECTORS <= first + sector_count(what))
+    !(first <= from && from + BLOCK_SECTORS <= first + u128::from(sector_count(what)))
 }
 
 /// The seed of a write.

@@ -1,7 +1,7 @@
 //! The edges of writes: blocks that are touched in part are read before they are written.
 
 ghost use Rattle.std.specs.Prelude.{◌≡◌, ℕ, ◌+◌, ◌*◌, ◌/◌, ◌%◌, ◌<◌, ◌≤◌, [], length, None, Some, IfErr, IfNone, IfSome, OnErr, OnOk};
-ghost use Rattle.zd_base.specs.declared.numbers.Why.{TheVariants as whys};
+ghost use Rattle.zd_base.specs.declared.numbers.Why.TheVariants as whys;
 ghost use Rattle.zd_disk.specs.Told.{WhereTold};
 ghost use Rattle.zd_disk.specs.View.{HasFailed, Fails, OnlyReads, ReadsOnce};
 ghost use Rattle.zd_routes.specs.Edges.{IsDue, IsNextEdge, MayBeEdges, ReadsEdge, block_served};

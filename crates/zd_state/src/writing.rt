@@ -4,7 +4,7 @@ ghost use Rattle.std.specs.Prelude.{◌≡◌, ◌⊎◌, ℕ, ◌+◌, ◌*◌,
 ghost use Rattle.zd_alloc.specs.Candidates.{Follows};
 ghost use Rattle.zd_alloc.specs.Order.{PutsLast};
 ghost use Rattle.zd_base.specs.Geometry.{zone_count};
-ghost use Rattle.zd_base.specs.declared.numbers.Why.{TheVariants as whys};
+ghost use Rattle.zd_base.specs.declared.numbers.Why.TheVariants as whys;
 ghost use Rattle.zd_disk.specs.Told.{WhereTold, next_count};
 ghost use Rattle.zd_map.specs.Numbers.{NamesZones};
 ghost use Rattle.zd_model.specs.Plain.{Answer as answers};
