@@ -1,0 +1,5 @@
+pub mod WritePlaces
+pub mod WriteCovers
+pub mod WriteLasts
+pub mod MergedBlocks
+pub mod WriteReads
