@@ -3,3 +3,4 @@ pub mod WriteCovers
 pub mod WriteLasts
 pub mod MergedBlocks
 pub mod WriteReads
+pub mod WritePointers

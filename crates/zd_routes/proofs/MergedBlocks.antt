@@ -25,13 +25,13 @@ use Rattle.zd_volume.specs.Volumes.{IsKeptVolume, PlainVolume, sets_of}
 use Rattle.zd_volume.proofs.Choices.{some_blocks}
 use Rattle.zd_volume.proofs.PlaceLaws.{cases_place, held_place}
 use Rattle.zd_routes.specs.Edges.{AreEdges, FillsBlocks, HasEdge, HoldsEdge, IsMerged, NeedsEdge, block_served, bytes_at}
-use Rattle.zd_routes.specs.Edges.{edge_block, edge_sector, is_cut}
+use Rattle.zd_routes.specs.Edges.{edge_block, edge_sector, is_in_part}
 use Rattle.zd_routes.specs.declared.edges.Edge.{Edge}
 use Rattle.zd_routes.specs.declared.edges.Edge.TheVariants.{First, Last}
 use Rattle.zd_routes.specs.declared.edges.Edges.{Edges}
 
 -- a block with a sector that the request doesn't touch is cut
-pub cut_by : (what : What) (block n : ℕ) → n / 8 ≡ block → (Covers what n → ⊥) → is_cut what block ≡ true
+pub cut_by : (what : What) (block n : ℕ) → n / 8 ≡ block → (Covers what n → ⊥) → is_in_part what block ≡ true
 cut_by what block n at off = elim (cases_lt (8 * block) (first_sector what)) [
   | inl before ↦
       ap (λ (b : Bool). not (b && nat_le (8 * block + 8) (first_sector what + sector_count what)))
