@@ -1,5 +1,5 @@
 -- A volume that starts is one.
-use Rattle.std.proofs.Common.{◌≡◌, ℕ, ◌+◌, ◌-◌, ◌^◌, ◌<◌, List, [], length, slice_index_or, Bool, Option, Some, inl, refl, ap, sym, ◌∙◌, subst, arith}
+use Rattle.std.proofs.Common.{◌≡◌, ℕ, ◌+◌, ◌-◌, ◌^◌, ◌<◌, List, [], length, slice_index_or, Bool, Option, Some, inl, refl, ap, sym, ◌∙◌, subst, arith, inr}
 use Rattle.std.specs.Option.{option_map_or}
 use Rattle.zd_base.specs.Geometry.{Shape}
 use Rattle.zd_alloc.specs.Candidates.{Standings}
