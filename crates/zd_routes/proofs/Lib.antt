@@ -1,6 +1,11 @@
+pub mod GoalLaws
 pub mod WritePlaces
 pub mod WriteCovers
 pub mod WriteLasts
 pub mod MergedBlocks
 pub mod WriteReads
 pub mod WritePointers
+pub mod WriteGoals
+pub mod FaultWrites
+pub mod UntoldWrites
+pub mod StoppedWrites
