@@ -9,3 +9,4 @@ pub mod WriteGoals
 pub mod FaultWrites
 pub mod UntoldWrites
 pub mod StoppedWrites
+pub mod KeptWrites
