@@ -1,0 +1,5 @@
+pub mod Changes
+pub mod Routes
+pub mod Edges
+pub mod Writes
+pub mod Promotions
