@@ -3,3 +3,7 @@ pub mod ChunkSets
 pub mod ChunkJobs
 pub mod ChunkClasses
 pub mod ChunkUses
+pub mod RouteTables
+pub mod RouteUses
+pub mod FixedWrites
+pub mod FixedPromotions
