@@ -7,3 +7,6 @@ pub mod RouteTables
 pub mod RouteUses
 pub mod FixedWrites
 pub mod FixedPromotions
+pub mod EntryBlocks
+pub mod RangeBlocks
+pub mod RouteBlocks
