@@ -1,4 +1,15 @@
 pub mod GoalLaws
+pub mod ChunkSets
+pub mod ChunkJobs
+pub mod ChunkClasses
+pub mod ChunkUses
+pub mod RouteTables
+pub mod RouteUses
+pub mod FixedWrites
+pub mod FixedPromotions
+pub mod EntryBlocks
+pub mod RangeBlocks
+pub mod RouteBlocks
 pub mod WritePlaces
 pub mod WriteCovers
 pub mod WriteLasts
