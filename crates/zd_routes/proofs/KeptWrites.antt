@@ -29,6 +29,7 @@ use Rattle.zd_routes.specs.Edges.{IsMerged}
 use Rattle.zd_routes.specs.Routes.{IsRoute, WritesBlocks, pointers_with, uses_with}
 use Rattle.zd_routes.specs.Writes.{WritesPiece, with_failed_write}
 use Rattle.zd_routes.proofs.FaultWrites.{faults_write}
+use Rattle.zd_routes.proofs.FixedWrites.{fixed_written}
 use Rattle.zd_routes.proofs.GoalLaws.{goal_no_target}
 use Rattle.zd_routes.proofs.StoppedWrites.{kept_by_write}
 use Rattle.zd_routes.proofs.WriteGoals.{goal_zone, starts_at_pointer}
@@ -105,15 +106,19 @@ module _ (from to : PlainVolume) (p : Piece) (place : Place) (zone : ℕ) (bytes
             (goal_no_target from was.fixed p.what place zone wrote.route off) now.copies;
       }
 
-  kept_after : from.since < 2 ^ 64 - 1 → IsFixed to
+  fixed_after : IsFixed after
+  fixed_after =
+      subst (λ (w : PlainVolume). IsFixed w) (sym is_after) (fixed_written from to p place zone was.fixed wrote idle off)
+
+  pub kept_written : from.since < 2 ^ 64 - 1
       → Calls (λ r. WriteStep r zone (8 * range_first from.geometry.zone_blocks p.what) bytes)
       (λ r j. WriteLeaves r j zone (8 * range_first from.geometry.zone_blocks p.what) bytes) u x
       → IsKeptVolume to opening x
-  kept_after few fixed call =
+  kept_written few call =
       subst (λ (w : PlainVolume). IsKeptVolume w opening x) is_after
       (kept_by_write from p place zone bytes opening u x runs was idle few is wrote.route merged call Done (inl refl)
-      to.fresh to.dirty to.division (pointers_with from.geometry from.pointers zone end) to.standings true
-      (subst (λ (w : PlainVolume). IsFixed w) (sym is_after) fixed) now_written (Wrote zone (8 * first) bytes) turns
+      to.fresh to.dirty to.division (pointers_with from.geometry from.pointers zone end) to.standings true fixed_after
+      now_written (Wrote zone (8 * first) bytes) turns
       (faults_none from.history (e ∷ []) tells_none None opening.faults x.faults
       (faults_by from opening u x true runs was call.stays.later (λ no. absurd (let f : ⊥ = cc in f))))
       (λ _. calm_more from.history (e ∷ []) (was.calm runs) (none_calm (e ∷ []) tells_none)))

@@ -16,6 +16,7 @@ use Rattle.zd_volume.specs.declared.work.Place.TheVariants.{Buffer, Main, NewBuf
 use Rattle.zd_volume.proofs.DropPlaces.{IsWithin, place_none, place_same}
 use Rattle.zd_volume.proofs.DropTables.{in_or_out, some_or}
 use Rattle.zd_routes.specs.Routes.{MovesBits, WritesRange, entry_with, other_zone}
+use Rattle.zd_routes.proofs.RouteTables.{other_named}
 
 -- A BLOCK that is valid in the chunk's zone stands there; in the buffer, where it isn't valid in the zone
 module _ (u : Tables) (x : ℕ) where
@@ -45,13 +46,6 @@ FitsPlace e Main z = e.zone ≡ Some z
 FitsPlace e NewMain z = (e.zone ≡ None) × (e.buffer ≡ None)
 FitsPlace e Buffer z = e.buffer ≡ Some z
 FitsPlace e NewBuffer z = (e.buffer ≡ None) × (e.zone ≢ Some z)
-
--- the other zone is the chunk's
-pub other_named : (e : MapEntry) (place : Place) (z : ℕ) → other_zone e place ≡ Some z → NamesZone e z
-other_named e Main z is = inr is
-other_named e NewMain z is = absurd (none_some z is)
-other_named e Buffer z is = inl is
-other_named e NewBuffer z is = inl is
 
 -- THE BLOCKS OF THE CHUNK
 module _ (e : MapEntry) (zone first end : ℕ) (t u : Tables) where

@@ -1,7 +1,7 @@
 -- Pointers and a job's copies after a write that was done.
 use Rattle.std.proofs.Common.{◌≡◌, ◌≢◌, ℕ, ◌+◌, ◌*◌, ◌%◌, ◌<◌, ◌≤◌, Bool, cond, List, [], ◌∷◌, ◌++◌, length, Option}
 use Rattle.std.proofs.Common.{Some, None, inl, inr, refl, sym, ap, ◌∙◌, subst, arith}
-use Rattle.std.proofs.lemmas.Bool.{cases_eq, cases_lt, le-ltb, lt-ltb}
+use Rattle.std.proofs.lemmas.Bool.{cases_eq, le-ltb}
 use Rattle.std.proofs.lemmas.Grind.{get_or-set_at}
 use Rattle.std.proofs.lemmas.List.{get_or-set_other}
 use Rattle.std.specs.Prelude.{set, slice_index}
@@ -28,6 +28,7 @@ use Rattle.zd_volume.specs.declared.work.Work.{Work}
 use Rattle.zd_volume.proofs.DropCopies.{chunk_of_sector}
 use Rattle.zd_volume.proofs.DropUses.{source_named}
 use Rattle.zd_routes.specs.Routes.{WritesBlocks, pointers_with, uses_with}
+use Rattle.zd_routes.proofs.FixedWrites.{pointer_elsewhere}
 use Rattle.zd_routes.proofs.WriteCovers.{touched_within}
 use Rattle.zd_routes.proofs.WriteLasts.{last_beside}
 use Rattle.zd_routes.proofs.WritePlaces.{others_as_were}
@@ -46,31 +47,20 @@ module _ (g : Shape) (zone first end : ℕ) (bytes : List ℕ) (r j : Image) (wr
   pub pointers_written : (pointers : List ℕ) → length pointers ≡ zone_count g → HasPointers g pointers r
       → HasPointers g (pointers_with g pointers zone end) j
   pointers_written pointers size has = record {
-    at = λ z seq low. elim (cases_lt zone g.conv) [
-      | inl below ↦
-          ap (λ (b : Bool). slice_index (cond b pointers (set pointers zone end)) z) (lt-ltb zone g.conv below)
-          ∙ as_was z seq low (λ here. omega (arith, below, seq, here))
-      | inr high ↦
+    at = λ z seq low. elim (cases_eq z zone) [
+      | inr off ↦
+          pointer_elsewhere g pointers zone end z off
+          ∙ has.at z seq low
+          ∙ ap (λ (n : ℕ). rounded_up n 8) (sym (wrote.others z off).held)
+      | inl here ↦
+          let high : g.conv ≤ zone = omega (arith, seq, here) in
+          let held : j.held z ≡ 8 * end = ap j.held here ∙ held_written high in
+          let rounded : rounded_up (8 * end) 8 ≡ end = omega arith in
           ap (λ (b : Bool). slice_index (cond b pointers (set pointers zone end)) z) (le-ltb zone g.conv high)
-          ∙ in_list z seq low high
+          ∙ get_or-set_at pointers zone z end 0 here (omega (arith, size, low, here))
+          ∙ sym (ap (λ (n : ℕ). rounded_up n 8) held ∙ rounded)
     ];
   }
-    where
-      as_was : (z : ℕ) → g.conv ≤ z → z < zone_count g → z ≢ zone
-          → slice_index pointers z ≡ rounded_up (j.held z) 8
-      as_was z seq low off =
-          has.at z seq low ∙ ap (λ (n : ℕ). rounded_up n 8) (sym (wrote.others z off).held)
-
-      in_list : (z : ℕ) → g.conv ≤ z → z < zone_count g → g.conv ≤ zone
-          → slice_index (set pointers zone end) z ≡ rounded_up (j.held z) 8
-      in_list z seq low high = elim (cases_eq z zone) [
-        | inr off ↦ get_or-set_other pointers zone z end 0 off ∙ as_was z seq low off
-        | inl here ↦
-            let held : j.held z ≡ 8 * end = ap j.held here ∙ held_written high in
-            let rounded : rounded_up (8 * end) 8 ≡ end = omega arith in
-            get_or-set_at pointers zone z end 0 here (omega (arith, size, low, here))
-            ∙ sym (ap (λ (n : ℕ). rounded_up n 8) held ∙ rounded)
-      ]
 
   use_other : (place : Place) (uses : List ZoneUse) (z : ℕ) → z ≢ zone
       → use_at (uses_with place zone uses) z ≡ use_at uses z
