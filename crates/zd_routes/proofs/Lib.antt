@@ -21,3 +21,6 @@ pub mod FaultWrites
 pub mod UntoldWrites
 pub mod StoppedWrites
 pub mod KeptWrites
+pub mod EdgeKeeps
+pub mod PromotedPlaces
+pub mod KeptPromotions

@@ -30,9 +30,9 @@ use Rattle.zd_routes.specs.declared.edges.Edge.{Edge}
 use Rattle.zd_routes.specs.declared.edges.Edge.TheVariants.{First, Last}
 use Rattle.zd_routes.specs.declared.edges.Edges.{Edges}
 
--- a block with a sector that the request doesn't touch is cut
-pub cut_by : (what : What) (block n : ℕ) → n / 8 ≡ block → (Covers what n → ⊥) → is_in_part what block ≡ true
-cut_by what block n at off = elim (cases_lt (8 * block) (first_sector what)) [
+-- a block with a sector that the request doesn't touch is touched in part
+pub in_part_by : (what : What) (block n : ℕ) → n / 8 ≡ block → (Covers what n → ⊥) → is_in_part what block ≡ true
+in_part_by what block n at off = elim (cases_lt (8 * block) (first_sector what)) [
   | inl before ↦
       ap (λ (b : Bool). not (b && nat_le (8 * block + 8) (first_sector what + sector_count what)))
       (lt-leb (first_sector what) (8 * block) before)
@@ -99,7 +99,7 @@ module _ (v : PlainVolume) (told : Option Image) (what : What) (e : Edges) (byte
   in_first j few off =
       fills.before j few off
       ∙ edge_is v told what First e.first.items
-      (cut_by what (first_block what) (8 * first_block what + j) (omega (arith, few)) off)
+      (in_part_by what (first_block what) (8 * first_block what + j) (omega (arith, few)) off)
       (edges.needed First) (edges.others First) r there sized j few
 
   in_last : (j k : ℕ) → 2 ≤ block_count what → j ≡ 8 * (block_count what - 1) + k → k < 8
@@ -113,7 +113,7 @@ module _ (v : PlainVolume) (told : Option Image) (what : What) (e : Edges) (byte
       ap (piece bytes) at
       ∙ fills.behind two k few uncovered
       ∙ edge_is v told what Last e.last.items
-      (two, cut_by what (first_block what + block_count what - 1)
+      (two, in_part_by what (first_block what + block_count what - 1)
       (8 * (first_block what + block_count what - 1) + k) (omega (arith, few)) uncovered)
       (edges.needed Last) (edges.others Last) r there sized k few
       ∙ ap was (sym place)
