@@ -10,3 +10,4 @@ pub mod FixedPromotions
 pub mod EntryBlocks
 pub mod RangeBlocks
 pub mod RouteBlocks
+pub mod RouteSteps
