@@ -1,6 +1,6 @@
 -- THE ZONES ARE USED RIGHT where one zone has another use, and the others are named as they were.
-use Rattle.std.proofs.Common.{◌≡◌, ◌≢◌, ◌⊎◌, ◌↔◌, ℕ, ◌<◌, ◌≤◌, Bool, true, false, List, length, get_or, Option, Some}
-use Rattle.std.proofs.Common.{inl, inr, refl, sym, ap, ◌∙◌, subst, arith}
+use Rattle.std.proofs.Common.{◌≡◌, ◌≢◌, ◌⊎◌, ◌↔◌, ℕ, ◌<◌, ◌≤◌, Bool, true, false, List, length, get_or, Option}
+use Rattle.std.proofs.Common.{inl, inr, refl, sym, ◌∙◌, subst, arith}
 use Rattle.std.proofs.lemmas.Bool.{cases_eq, false≢true}
 use Rattle.zd_base.specs.Geometry.{zone_count}
 use Rattle.zd_base.specs.Layout.{first_data_zone}

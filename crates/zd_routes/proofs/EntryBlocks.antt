@@ -1,6 +1,7 @@
 -- AN ENTRY IS SET in the blocks of a set, and its block is marked; what comes after it in other blocks.
-use Rattle.std.proofs.Common.{◌≡◌, ◌≢◌, ℕ, ◌+◌, ◌/◌, ◌%◌, ◌<◌, ◌≤◌, Bool, true, List, length, get_or, set, get_or-set_other, get_or-set_same}
-use Rattle.std.proofs.Common.{length-set, inl, inr, refl, sym, ap, ◌∙◌, subst, arith}
+use Rattle.std.proofs.Common.{◌≡◌, ◌≢◌, ℕ, ◌+◌, ◌%◌, ◌<◌, ◌≤◌, Bool, true, List, length, get_or, set, inl}
+use Rattle.std.proofs.Common.{inr, refl, sym, ap, ◌∙◌, subst, arith}
+use Rattle.std.proofs.Common.{get_or-set_other, get_or-set_same, length-set}
 use Rattle.std.proofs.lemmas.Bool.{cases_eq, cases_lt, false≢true}
 use Rattle.zd_model.specs.Tables.{entry_at, entry_of}
 use Rattle.zd_model.specs.declared.metadata.MapEntry.{MapEntry}

@@ -1,6 +1,6 @@
 -- WHAT IS TRUE OF A VOLUME'S OWN VALUES stays true after a promotion, beside a job on another chunk.
-use Rattle.std.proofs.Common.{◌≡◌, ◌≢◌, ◌⊎◌, ℕ, ◌<◌, false, List, length, set, get_or, get_or-set_other, get_or-set_same}
-use Rattle.std.proofs.Common.{length-set, Option, Some, None, inl, inr, refl, sym, ap, ◌∙◌, subst, arith}
+use Rattle.std.proofs.Common.{◌≡◌, ◌≢◌, ◌⊎◌, ℕ, ◌<◌, false, List, length, get_or, get_or-set_other, get_or-set_same}
+use Rattle.std.proofs.Common.{length-set, Some, None, inl, inr, refl, sym, ap, ◌∙◌, subst, arith}
 use Rattle.zd_alloc.specs.Zones.{use_after_release, use_at}
 use Rattle.zd_alloc.specs.declared.uses.ZoneUse.{ZoneUse}
 use Rattle.zd_alloc.specs.declared.uses.ZoneUse.TheVariants.{Meta}

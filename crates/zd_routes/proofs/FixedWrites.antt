@@ -1,9 +1,8 @@
 -- WHAT IS TRUE OF A VOLUME'S OWN VALUES stays true after a write, beside a job on another chunk.
-use Rattle.std.proofs.Common.{◌≡◌, ◌≢◌, ℕ, ◌<◌, List, length, set, slice_index, get_or-set_other, length-set, inl, inr}
+use Rattle.std.proofs.Common.{◌≡◌, ◌≢◌, ℕ, List, length, set, slice_index, get_or-set_other, length-set, inl, inr}
 use Rattle.std.proofs.Common.{refl, sym, ◌∙◌, subst, arith}
-use Rattle.std.proofs.lemmas.Bool.{cases_Bool}
 use Rattle.std.specs.Prelude.{Bool, cond, false, nat_lt, true}
-use Rattle.zd_base.specs.Geometry.{Shape, zone_count}
+use Rattle.zd_base.specs.Geometry.{Shape}
 use Rattle.zd_model.specs.Tables.{NamesZone, entry_of}
 use Rattle.zd_model.specs.declared.metadata.MapEntry.{MapEntry}
 use Rattle.zd_model.specs.declared.requests.Piece.{Piece}
@@ -21,7 +20,7 @@ use Rattle.zd_routes.specs.Routes.{entry_touched, entry_with, pointers_with}
 use Rattle.zd_routes.specs.Writes.{WritesPiece, with_write}
 use Rattle.zd_routes.proofs.ChunkClasses.{candidates_put_last}
 use Rattle.zd_routes.proofs.ChunkJobs.{jobs_changed}
-use Rattle.zd_routes.proofs.GoalLaws.{goal_alone, goal_named, goal_no_target}
+use Rattle.zd_routes.proofs.GoalLaws.{goal_alone, goal_no_target}
 use Rattle.zd_routes.proofs.RouteTables.{entry_from, may_write, other_named, written_changes, written_sets}
 use Rattle.zd_routes.proofs.RouteUses.{uses_written}
 

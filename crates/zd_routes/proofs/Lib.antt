@@ -7,6 +7,7 @@ pub mod RouteTables
 pub mod RouteUses
 pub mod FixedWrites
 pub mod FixedPromotions
+pub mod RouteSteps
 pub mod EntryBlocks
 pub mod RangeBlocks
 pub mod RouteBlocks

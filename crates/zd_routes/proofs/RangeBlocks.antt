@@ -60,7 +60,9 @@ moves_both zone other first end t start middle u begins apart one two = record {
 bitmaps_apart : (g : Shape) (l : Layout) (z y : ℕ) → z ≢ y
     → (bits_block g l z + per g ≤ bits_block g l y) ⊎ (bits_block g l y + per g ≤ bits_block g l z)
 bitmaps_apart g l z y off = elim (cases_lt z y) [
-  | inl before ↦ (let m = mul-le-mul_right {m = z + 1} {n = y} (per g) (omega (arith, before)) in inl (omega (arith, m)))
+  | inl before ↦
+      let m = mul-le-mul_right {m = z + 1} {n = y} (per g) (omega (arith, before)) in
+      inl (omega (arith, m))
   | inr after ↦
       let m = mul-le-mul_right {m = y + 1} {n = z} (per g) (omega (arith, after, off)) in
       inr (omega (arith, m))

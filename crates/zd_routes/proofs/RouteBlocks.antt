@@ -1,15 +1,13 @@
 -- FROM THE BLOCKS that a write and a promotion change to what they make of a volume's tables and flags.
-use Rattle.std.proofs.Common.{◌≡◌, ◌≢◌, ℕ, ◌<◌, Bool, true, false, List, length, set, Option, Some, None, inl, inr, refl}
+use Rattle.std.proofs.Common.{◌≡◌, ℕ, ◌<◌, Bool, true, false, List, set, Some, None, inl, refl}
 use Rattle.std.proofs.Common.{sym, ap, ◌∙◌, subst, arith}
 use Rattle.zd_base.specs.Geometry.{zone_count}
-use Rattle.zd_model.specs.Tables.{entry_of}
 use Rattle.zd_model.specs.declared.metadata.MapEntry.{MapEntry}
 use Rattle.zd_model.specs.declared.requests.What.{What}
 use Rattle.zd_model.proofs.FaultLaws.{none_some}
 use Rattle.zd_sets.specs.Blocks.{blocks_of}
 use Rattle.zd_tables.specs.Changes.{SetsEntry, entry_block}
 use Rattle.zd_volume.specs.Discards.{chunk_touched, range_end, range_first}
-use Rattle.zd_volume.specs.Flights.{tables_now}
 use Rattle.zd_volume.specs.Marks.{GivesBits, GivesBitsIn, MarksChanged}
 use Rattle.zd_volume.specs.Sets.{AreSets, Sets}
 use Rattle.zd_volume.specs.Volumes.{IsFixed, PlainVolume, sets_of}
@@ -64,8 +62,8 @@ module _ (v : PlainVolume) (fixed : IsFixed v) (what : What) (place : Place) (zo
     where
       by : (at : Place)
           → GoesTo v.geometry v.pointers (entry_touched v what) (range_first v.geometry.zone_blocks what) at
-          → GivesEntry at (chunk_touched v.geometry.zone_blocks what) (entry_with (entry_touched v what) at zone) v.fresh
-          start v.dirty early
+          → GivesEntry at (chunk_touched v.geometry.zone_blocks what) (entry_with (entry_touched v what) at zone)
+          v.fresh start v.dirty early
           → HasEntry (sets_of v) (chunk_touched v.geometry.zone_blocks what)
           (entry_with (entry_touched v what) at zone) start v.dirty early
       by Main goes gives = entry_stays s fixed.sets c is.there e start v.dirty early refl gives.0 gives.1

@@ -1,6 +1,6 @@
 -- THE TABLES OF A WRITE: the chunk gets an entry that it may have, and no block is valid in both its zones.
-use Rattle.std.proofs.Common.{◌≡◌, ◌≢◌, ◌⊎◌, ℕ, ◌<◌, ◌≤◌, true, false, List, Option, Some, None, IsSomeAnd, inl, inr}
-use Rattle.std.proofs.Common.{sym, ap, ◌∙◌, subst, arith}
+use Rattle.std.proofs.Common.{◌≡◌, ◌⊎◌, ℕ, ◌<◌, ◌≤◌, true, false, List, Option, Some, IsSomeAnd, inl, inr}
+use Rattle.std.proofs.Common.{sym, ◌∙◌, subst, arith}
 use Rattle.std.proofs.lemmas.Bool.{false_from_ne_true, false≢true}
 use Rattle.zd_base.specs.Geometry.{zone_count}
 use Rattle.zd_base.specs.Layout.{first_data_zone}
@@ -19,7 +19,7 @@ use Rattle.zd_volume.proofs.DropTables.{in_or_out}
 use Rattle.zd_routes.specs.Changes.{ChangesChunk, MayHave}
 use Rattle.zd_routes.specs.Routes.{GoesTo, IsGoal, IsRoute, WritesRange, entry_touched, entry_with, other_zone}
 use Rattle.zd_routes.proofs.ChunkSets.{sets_changed}
-use Rattle.zd_routes.proofs.GoalLaws.{goal_alone, goal_alone_old, goal_data, goal_named, goal_other, least_conventional}
+use Rattle.zd_routes.proofs.GoalLaws.{goal_alone, goal_alone_old, goal_data, goal_named, least_conventional}
 use Rattle.zd_routes.proofs.GoalLaws.{least_spare, no_buffer}
 
 -- the zones of the entry then: those that the chunk had, and the zone that is written

@@ -1,5 +1,5 @@
 -- THE ZONES ARE USED RIGHT after a write: a zone that was taken is held, and named.
-use Rattle.std.proofs.Common.{◌≡◌, ◌≢◌, ℕ, List, length, set, get_or-set_other, get_or-set_same, length-set, inl, inr}
+use Rattle.std.proofs.Common.{◌≡◌, ◌≢◌, ℕ, List, length, get_or-set_other, get_or-set_same, length-set, inl, inr}
 use Rattle.std.proofs.Common.{refl, sym, ap, ◌∙◌, subst}
 use Rattle.zd_alloc.specs.Order.{PutsLast}
 use Rattle.zd_alloc.specs.Zones.{Division, use_at}
