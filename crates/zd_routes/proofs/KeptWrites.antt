@@ -110,13 +110,12 @@ module _ (from to : PlainVolume) (p : Piece) (place : Place) (zone : ℕ) (bytes
   fixed_after =
       subst (λ (w : PlainVolume). IsFixed w) (sym is_after) (fixed_written from to p place zone was.fixed wrote idle off)
 
-  pub kept_written : from.since < 2 ^ 64 - 1
-      → Calls (λ r. WriteStep r zone (8 * range_first from.geometry.zone_blocks p.what) bytes)
+  pub kept_written : Calls (λ r. WriteStep r zone (8 * range_first from.geometry.zone_blocks p.what) bytes)
       (λ r j. WriteLeaves r j zone (8 * range_first from.geometry.zone_blocks p.what) bytes) u x
       → IsKeptVolume to opening x
-  kept_written few call =
+  kept_written call =
       subst (λ (w : PlainVolume). IsKeptVolume w opening x) is_after
-      (kept_by_write from p place zone bytes opening u x runs was idle few is wrote.route merged call Done (inl refl)
+      (kept_by_write from p place zone bytes opening u x runs was idle is wrote.route merged call Done (inl refl)
       to.fresh to.dirty to.division (pointers_with from.geometry from.pointers zone end) to.standings true fixed_after
       now_written (Wrote zone (8 * first) bytes) turns
       (faults_none from.history (e ∷ []) tells_none None opening.faults x.faults
@@ -155,16 +154,16 @@ module _ (from : PlainVolume) (p : Piece) (place : Place) (zone : ℕ) (bytes : 
   }
 
   pub kept_failed_write : from.stopped ≡ None → IsKeptVolume from opening u → from.phase ≡ Idle
-      → from.since < 2 ^ 64 - 1 → WritesBlocks (sets_of from) p.what
+      → WritesBlocks (sets_of from) p.what
       → WhereTold u.zones (λ r. IsMerged p.what (sector_by (sets_of from) (tables_now from) r) bytes)
       → IsRoute from p.what place zone → HasFailed u x
       → Turns (λ i. WriteStep i zone (8 * range_first from.geometry.zone_blocks p.what) bytes i) u x
       → Calls (λ r. WriteStep r zone (8 * range_first from.geometry.zone_blocks p.what) bytes)
       (λ r j. WriteLeaves r j zone (8 * range_first from.geometry.zone_blocks p.what) bytes) u x
       → IsKeptVolume (with_failed_write from p) opening x
-  kept_failed_write runs was idle few is merged route failed turns call =
+  kept_failed_write runs was idle is merged route failed turns call =
       subst (λ (w : PlainVolume). IsKeptVolume w opening x) (is_stopped idle)
-      (kept_by_write from p place zone bytes opening u x runs was idle few is route merged call Fault (inr refl)
+      (kept_by_write from p place zone bytes opening u x runs was idle is route merged call Fault (inr refl)
       from.fresh from.dirty from.division from.pointers from.standings false (fixed_stopped was.fixed)
       (λ no. absurd (let g : ⊥ = cc in g))
       (λ i. WriteStep i zone (8 * range_first from.geometry.zone_blocks p.what) bytes i) turns
