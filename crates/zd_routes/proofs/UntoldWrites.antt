@@ -1,5 +1,5 @@
 -- A call over a disk that doesn't tell what it reads as: only the values of the volume, and counts, are to be shown.
-use Rattle.std.proofs.Common.{◌≡◌, ℕ, ◌+◌, ◌<◌, ◌≤◌, List, Option, Some, None, sym, ◌∙◌, arith}
+use Rattle.std.proofs.Common.{◌≡◌, ℕ, ◌<◌, List, Option, Some, None, sym, ◌∙◌, arith}
 use Rattle.zd_model.specs.Image.{Image}
 use Rattle.zd_model.specs.Safe.{base_at}
 use Rattle.zd_model.specs.Stops.{AreBy, MayHold}
