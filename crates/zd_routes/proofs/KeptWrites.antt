@@ -1,13 +1,11 @@
 -- A WRITE KEEPS A VOLUME: in Idle, beside a job on another chunk, done or failed.
-use Rattle.std.proofs.Common.{◌≡◌, ℕ, ◌+◌, ◌-◌, ◌*◌, ◌^◌, ◌<◌, ◌≤◌, Bool, true, false, List, [], ◌∷◌, ◌++◌, Option, Some}
+use Rattle.std.proofs.Common.{◌≡◌, ℕ, ◌+◌, ◌-◌, ◌*◌, ◌^◌, ◌<◌, true, false, List, [], ◌∷◌, ◌++◌, Option, Some}
 use Rattle.std.proofs.Common.{None, inl, inr, refl, sym, ap, ap₂, ◌∙◌, subst, arith}
 use Rattle.std.specs.List.{AllByRecursion}
 use Rattle.zd_base.specs.declared.numbers.Why.{Why}
 use Rattle.zd_alloc.specs.declared.uses.ZoneUse.{ZoneUse}
 use Rattle.zd_model.specs.History.{HistoryEntry}
-use Rattle.zd_model.specs.Image.{Image}
 use Rattle.zd_model.specs.Plain.Answer.{Done, Fault}
-use Rattle.zd_model.specs.Requests.{block_count}
 use Rattle.zd_model.specs.Safe.{base_at}
 use Rattle.zd_model.specs.declared.requests.Piece.{Piece}
 use Rattle.zd_disk.specs.Steps.{WriteLeaves, WriteStep, Wrote, count_of}
@@ -17,7 +15,7 @@ use Rattle.zd_volume.specs.Discards.{NoJobOn, chunk_touched, range_end, range_fi
 use Rattle.zd_volume.specs.Flights.{answered, tables_now}
 use Rattle.zd_volume.specs.LeftImages.{ReadsAs}
 use Rattle.zd_volume.specs.Sets.{sector_by}
-use Rattle.zd_volume.specs.Volumes.{IsFixed, IsKeptVolume, IsNow, IsWhole, PlainVolume, sets_of}
+use Rattle.zd_volume.specs.Volumes.{IsFixed, IsKeptVolume, IsWhole, PlainVolume, sets_of}
 use Rattle.zd_volume.specs.declared.phase.Phase.{Phase}
 use Rattle.zd_volume.specs.declared.phase.Phase.TheVariants.{Idle}
 use Rattle.zd_volume.specs.declared.work.Place.{Place}
@@ -26,7 +24,7 @@ use Rattle.zd_volume.proofs.DataWrites.{after_write}
 use Rattle.zd_volume.proofs.FaultEntries.{TellsNone, calm_more, faults_none, none_calm}
 use Rattle.zd_volume.proofs.InPhases.{both_at}
 use Rattle.zd_routes.specs.Edges.{IsMerged}
-use Rattle.zd_routes.specs.Routes.{IsRoute, WritesBlocks, pointers_with, uses_with}
+use Rattle.zd_routes.specs.Routes.{IsRoute, WritesBlocks, pointers_with}
 use Rattle.zd_routes.specs.Writes.{WritesPiece, with_failed_write}
 use Rattle.zd_routes.proofs.FaultWrites.{faults_write}
 use Rattle.zd_routes.proofs.FixedWrites.{fixed_written}
@@ -100,7 +98,8 @@ module _ (from to : PlainVolume) (p : Piece) (place : Place) (zone : ℕ) (bytes
         pointers = pointers_written from.geometry zone first end bytes r j did whole pointer from.pointers
             was.fixed.pointers now.pointers;
         whole = subst (λ (uses : List ZoneUse). IsWhole from.geometry uses j) (sym wrote.zones)
-            (whole_written from.geometry zone first end bytes r j did whole pointer place from.division.zones now.whole);
+            (whole_written from.geometry zone first end bytes r j did whole pointer place from.division.zones
+            now.whole);
         copies = copies_written (sets_of from) was.fixed.sets base size from.history e is refl place zone goal to.fresh
             wrote.range (8 * first) bytes r j did from.job from.pointers from.buffer off was.fixed.job
             (goal_no_target from was.fixed p.what place zone wrote.route off) now.copies;
@@ -108,7 +107,8 @@ module _ (from to : PlainVolume) (p : Piece) (place : Place) (zone : ℕ) (bytes
 
   fixed_after : IsFixed after
   fixed_after =
-      subst (λ (w : PlainVolume). IsFixed w) (sym is_after) (fixed_written from to p place zone was.fixed wrote idle off)
+      subst (λ (w : PlainVolume). IsFixed w) (sym is_after)
+      (fixed_written from to p place zone was.fixed wrote idle off)
 
   pub kept_written : Calls (λ r. WriteStep r zone (8 * range_first from.geometry.zone_blocks p.what) bytes)
       (λ r j. WriteLeaves r j zone (8 * range_first from.geometry.zone_blocks p.what) bytes) u x
