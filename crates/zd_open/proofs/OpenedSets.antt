@@ -1,8 +1,9 @@
 -- What opening promises is what a volume starts from.
-use Rattle.std.proofs.Common.{◌≡◌, ℕ, ◌+◌, ◌*◌, ◌/◌, ◌%◌, ◌<◌, ◌≤◌, List, length, get_or, slice_index, Some, sym, ap}
+use Rattle.std.proofs.Common.{◌≡◌, ℕ, ◌+◌, ◌*◌, ◌/◌, ◌%◌, ◌<◌, ◌≤◌, List, length, get_or, slice_index, Bool, false, Some, sym, ap}
 use Rattle.std.proofs.Common.{◌∙◌}
 use Rattle.std.proofs.Common.{subst, arith}
 use Rattle.std.proofs.lemmas.List.{get_or-map}
+use Rattle.std.specs.Prelude.{slice_index_or}
 use Rattle.std.proofs.Math.Nat.{mod-lt}
 use Rattle.zd_base.specs.Geometry.{IsShape, Shape, zone_count}
 use Rattle.zd_base.specs.Layout.{Fits, rounded_up, set_zones, used_blocks}
@@ -20,6 +21,7 @@ use Rattle.zd_model.specs.Tables.{Tables}
 use Rattle.zd_model.specs.declared.metadata.Super.{Super}
 use Rattle.zd_model.proofs.ContentLaws.{length-served, served-at}
 use Rattle.zd_open.specs.OpenedVolume.{in_blocks}
+use Rattle.zd_open.proofs.NamedZones.{flagged}
 use Rattle.zd_sets.specs.Blocks.{blocks_of}
 use Rattle.zd_sets.specs.Stages.{HasSet}
 use Rattle.zd_sets.specs.declared.choice.Chosen.{Chosen}
@@ -105,6 +107,16 @@ module _ (v : Volume) (u w : View) (o : IsOpening v u w) (shape : IsShape v.geom
               let count = o.usable.count in
               get_or-map (λ p. rounded_up p 8) v.pointers.items z 0 0 (omega (arith, count, low))
               ∙ ap (λ (p : ℕ). rounded_up p 8) (pointer_is before.0 r before.2 z conv low);
+        };
+    whole = λ r t.
+        let before = turned_back o.opened r t in
+        record {
+          at = λ z conv n.
+              let low = (o.usable.map.data_zones n.0 z n.1).1 in
+              ap (λ (p : ℕ). p % 8) (sym (pointer_is before.0 r before.2 z conv low))
+              ∙ o.whole.whole z conv
+              (ap (λ (fs : List Bool). slice_index_or fs z false) o.usable.flags
+              ∙ flagged v.geometry tables n.0 z low n.1);
         };
     leaves = λ small r t c can.
         let before = turned_back o.opened r t in

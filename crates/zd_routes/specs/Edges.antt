@@ -17,8 +17,8 @@ use Rattle.zd_routes.specs.declared.edges.Edge.TheVariants.{First, Last}
 use Rattle.zd_routes.specs.declared.edges.Edges.{Edges}
 
 -- some sector of the block isn't one of those that are touched
-abbrev pub is_cut : What → ℕ → Bool
-is_cut what block =
+abbrev pub is_in_part : What → ℕ → Bool
+is_in_part what block =
     not (nat_le (first_sector what) (8 * block)
     && nat_le (8 * block + 8) (first_sector what + sector_count what))
 
@@ -29,8 +29,8 @@ edge_block what Last = first_block what + block_count what - 1
 
 -- the request has this edge: its block is touched in part. One block has a first edge alone
 abbrev pub HasEdge : What → Edge → Type 0
-HasEdge what First = is_cut what (first_block what) ≡ true
-HasEdge what Last = (2 ≤ block_count what) × (is_cut what (first_block what + block_count what - 1) ≡ true)
+HasEdge what First = is_in_part what (first_block what) ≡ true
+HasEdge what Last = (2 ≤ block_count what) × (is_in_part what (first_block what + block_count what - 1) ≡ true)
 
 -- the block is valid, in its chunk's zone or in the buffer, and so has to be read before it is written
 pub record NeedsEdge (v : PlainVolume) (what : What) (edge : Edge) : Type 0 where

@@ -53,13 +53,19 @@ fn bits_block(geometry: &Geometry, layout: &Layout, zone: ZoneNo) -> u32
 }
 
 impl VolumeState {
-    /// Makes so many blocks of a zone, from this one on, invalid, where there is a zone. The blocks of the
-    /// set that change are dirty.
-    fn clear_blocks(&mut self, zone: Option<ZoneNo>, first: u32, count: u32)
+    /// Makes so many blocks of a zone, from this one on, valid or invalid, where there is a zone. The blocks
+    /// of the set that change are dirty.
+    pub(crate) fn give_blocks(
+        &mut self,
+        zone: Option<ZoneNo>,
+        first: u32,
+        count: u32,
+        valid: bool,
+    )
         requires flags { length self.old.plain.dirty ≡ used (sets_of self.old.plain) }
         requires zone { ForSome zone (λ z. z < zone_count self.old.plain.geometry) }
         requires inside { first + count ≤ self.old.plain.geometry.zone_blocks }
-        ensures gives { GivesBitsIn false self.old.plain.geometry self.old.plain.head.layout zone first
+        ensures gives { GivesBitsIn valid self.old.plain.geometry self.old.plain.head.layout zone first
             (first + count) self.old.plain.fresh self.new.plain.fresh self.old.plain.dirty self.new.plain.dirty }
         ensures rest { self.new ≡ record self.old {
           plain = record self.old.plain {
@@ -70,13 +76,17 @@ impl VolumeState {
     {
         if let Some(zone) = zone {
             let block = bits_block(self.tables.geometry(), self.tables.layout(), zone);
-            let changed = self.tables.clear_range(zone, first, count);
+            let changed = if valid {
+                self.tables.set_range(zone, first, count)
+            } else {
+                self.tables.clear_range(zone, first, count)
+            };
             mark(&mut self.dirty, block, changed);
         }
     }
 
     /// Gives a chunk its class anew.
-    fn reclass(&mut self, chunk: ChunkNo)
+    pub(crate) fn reclass(&mut self, chunk: ChunkNo)
         requires rules { FollowRules self.old.plain.geometry self.old.plain.head.layout self.old.plain.fresh }
         requires pointers { length self.old.plain.pointers ≡ zone_count self.old.plain.geometry }
         requires chunk { chunk < self.old.plain.head.layout.chunks }
@@ -131,8 +141,8 @@ impl VolumeState {
         let chunk = ChunkNo((block / zone_blocks) as u32);
         let first = (block % zone_blocks) as u32;
         let entry = self.tables.entry(chunk);
-        self.clear_blocks(entry.zone, first, count);
-        self.clear_blocks(entry.buffer, first, count);
+        self.give_blocks(entry.zone, first, count, false);
+        self.give_blocks(entry.buffer, first, count, false);
         self.reclass(chunk);
         self.enter_done(piece);
     }

@@ -177,6 +177,17 @@ kept_abandon from to opening now was did =
       calm = was.calm;
       legal = λ r t l. l;
       more = λ k n y m. m;
-      reads = λ _ r t is_now. record { read = is_now.read; pointers = is_now.pointers; copies = tt };
+      reads = λ _ r t is_now. record {
+        read = is_now.read;
+        pointers = is_now.pointers;
+        whole = record {
+          at = λ z seq held. is_now.whole.at z seq
+              (elim ((used_abandoned from to did was.fixed.job was.fixed.uses).held z held) [
+                | inl n ↦ was.fixed.uses.named z n
+                | inr t ↦ absurd t
+              ]);
+        };
+        copies = tt;
+      };
       stops = λ _ r c t may. may;
     }))

@@ -1,5 +1,5 @@
 -- The flush that ends a commit: the new tables are the committed ones.
-use Rattle.std.proofs.Common.{◌≡◌, ℕ, ◌+◌, ◌-◌, ◌^◌, ◌<◌, ◌≤◌, Bool, true, false, List, [], ◌∷◌, ◌++◌, length, slice_index_or, Option, Some, None, refl, ap, sym, ◌∙◌, subst, arith}
+use Rattle.std.proofs.Common.{◌≡◌, ℕ, ◌+◌, ◌-◌, ◌^◌, ◌<◌, ◌≤◌, Bool, true, false, List, [], ◌∷◌, ◌++◌, length, slice_index_or, Option, Some, None, refl, ap, sym, ◌∙◌, subst, arith, inl, inr}
 use Rattle.std.specs.List.{AllByRecursion}
 use Rattle.zd_alloc.specs.Zones.{Division}
 use Rattle.zd_model.specs.Bytes.{zero_sector}
@@ -32,7 +32,7 @@ use Rattle.zd_volume.proofs.FlushPhases.{none_left, onward}
 use Rattle.zd_volume.proofs.Flushes.{left_is_read}
 use Rattle.zd_volume.proofs.Images.{safe_of}
 use Rattle.zd_volume.proofs.InPhases.{both_at, by_next, left_same, read_same, safe_now}
-use Rattle.zd_volume.proofs.Kept.{kept_call, told_before}
+use Rattle.zd_volume.proofs.Kept.{kept_call, told_after, told_before}
 
 -- what is needed of the values that are made anew
 pub record EndsAs (v : PlainVolume) (clean named : List Bool) (division : Division) : Type 0 where
@@ -232,6 +232,7 @@ module _ (v : PlainVolume) (opening d : View) (was : IsKeptVolume v opening d) (
         calls = call.calls;
         grows = grows_by_flush call;
         from = told_before d e Same turns;
+        shows = told_after d e Same turns;
       })
       (record {
         fixed = record {
@@ -259,6 +260,12 @@ module _ (v : PlainVolume) (opening d : View) (was : IsKeptVolume v opening d) (
             record {
               read = read_end j new.read;
               pointers = new.pointers;
+              whole = record {
+                at = λ z seq held. new.whole.at z seq (elim (are_used.held z held) [
+                  | inl n ↦ was.fixed.uses.named z n
+                  | inr t ↦ was.fixed.uses.target z t
+                ]);
+              };
               copies = copies v.job j new.copies;
             };
         before = λ r i c one known s t.

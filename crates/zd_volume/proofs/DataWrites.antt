@@ -1,5 +1,5 @@
 -- A write of a piece, in Idle, done or failed.
-use Rattle.std.proofs.Common.{◌≡◌, ℕ, ◌+◌, ◌<◌, ◌≤◌, Bool, true, false, List, [], ◌∷◌, ◌++◌, length, Option, Some, None}
+use Rattle.std.proofs.Common.{◌≡◌, ◌⊎◌, ℕ, ◌+◌, ◌<◌, ◌≤◌, Bool, true, false, List, [], ◌∷◌, ◌++◌, length, Option, Some, None}
 use Rattle.std.proofs.Common.{refl, subst, arith}
 use Rattle.zd_base.specs.Geometry.{Shape}
 use Rattle.zd_base.specs.Layout.{first_data_zone}
@@ -9,7 +9,7 @@ use Rattle.zd_alloc.specs.Zones.{Division}
 use Rattle.zd_model.specs.History.{HistoryEntry, IsLegal}
 use Rattle.zd_model.specs.Image.{Image}
 use Rattle.zd_model.specs.Places.{spot, zone_at}
-use Rattle.zd_model.specs.Safe.{IsSafe, base_at}
+use Rattle.zd_model.specs.Safe.{IsSafe, base_at, last_at}
 use Rattle.zd_model.specs.Stops.{is_done_flush}
 use Rattle.zd_model.proofs.HeldLaws.{AreBy-push, past}
 use Rattle.zd_model.proofs.HistoryLaws.{Adds}
@@ -29,7 +29,7 @@ use Rattle.zd_volume.proofs.Choices.{sets_apart}
 use Rattle.zd_volume.proofs.DataSteps.{NowAfter, done_runs}
 use Rattle.zd_volume.proofs.Images.{left_write, safe_of}
 use Rattle.zd_volume.proofs.InPhases.{next_more}
-use Rattle.zd_volume.proofs.Kept.{kept_call, told_before}
+use Rattle.zd_volume.proofs.Kept.{kept_call, told_after, told_before}
 
 abbrev pub after_write : PlainVolume → List ℕ → List Bool → Division → List ℕ → Standings → HistoryEntry → Option Why
     → PlainVolume
@@ -59,7 +59,8 @@ module _ (v : PlainVolume) (opening d e : View) (runs : v.stopped ≡ None) (was
       → ((k n j : ℕ) → next_count v.since ≤ k + 1 → n < device_sectors (sets_of v)
       → zone_at v.geometry.zone_blocks (old_tables (sets_of v)) n ≡ Some z → j < count_of bytes
       → spot v.geometry.zone_blocks n ≡ start + j
-      → Adds (length (base_at opening.zones)) k n (piece bytes j) entry)
+      → Adds (length (base_at opening.zones)) k n (piece bytes j) entry
+      ⊎ (piece bytes j ≡ last_at (base_at opening.zones) v.history n))
       → ((r : Image) → d.zones ≡ Some r → IsNow v (base_at opening.zones) r → v.geometry.conv ≤ z → start ≡ r.held z)
       → ((r : Image) → d.zones ≡ Some r → IsLegal (base_at opening.zones) v.history
       → IsLegal (base_at opening.zones) (v.history ++ entry ∷ []))
@@ -77,6 +78,7 @@ module _ (v : PlainVolume) (opening d e : View) (runs : v.stopped ≡ None) (was
         calls = call.calls;
         grows = grows_by_write z start bytes call;
         from = told_before d e R turns;
+        shows = told_after d e R turns;
       })
       (record {
         fixed = fixed;

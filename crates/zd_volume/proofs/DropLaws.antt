@@ -107,6 +107,7 @@ module _ (v : PlainVolume) (opening now : View) (runs : v.stopped ≡ None) (was
         did r
         (subst (λ (p : Phase). ReadsAs p (sets_of v) (base_at opening.zones) v.history r) idle reads.read));
     pointers = reads.pointers;
+    whole = reads.whole;
     copies = copies_dropped (sets_of v) was.fixed.sets (base_at opening.zones) (was.based r t) v.history e is done
         bytes did v.job v.pointers v.buffer r off was.fixed.job reads.copies;
   }

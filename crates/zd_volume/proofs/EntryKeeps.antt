@@ -112,6 +112,7 @@ module _ (v : PlainVolume) (opening u x : View) (runs : v.stopped ≡ None) (io 
               served = λ n l. now.read.served n l ∙ sym (last_same n);
             };
             pointers = now.pointers;
+            whole = now.whole;
             copies = copies_grow (sets_of v) v.buffer v.job base v.history
                 (with_entry v p reply).history r last_same now.copies;
           };

@@ -1,8 +1,9 @@
 -- A volume in another phase, and images that hold the same.
-use Rattle.std.proofs.Common.{◌≡◌, ◌≢◌, ℕ, ◌<◌, ◌≤◌, List, Option, Some, sym, ◌∙◌, ap, subst, arith}
+use Rattle.std.proofs.Common.{◌≡◌, ◌≢◌, ℕ, ◌%◌, ◌<◌, ◌≤◌, List, Option, Some, sym, ◌∙◌, ap, subst, arith}
 use Rattle.zd_base.specs.Geometry.{Shape}
 use Rattle.zd_base.specs.Layout.{rounded_up}
 use Rattle.zd_base.specs.declared.numbers.Why.{Why}
+use Rattle.zd_alloc.specs.declared.uses.ZoneUse.{ZoneUse}
 use Rattle.zd_model.specs.Image.{Image, Same, SameZone}
 use Rattle.zd_model.specs.Safe.{IsSafe, base_at}
 use Rattle.zd_model.specs.Stops.{AreBy}
@@ -14,7 +15,7 @@ use Rattle.zd_disk.proofs.ToldLaws.{Both-new, Some-same}
 use Rattle.zd_volume.specs.Commits.{after_phase}
 use Rattle.zd_volume.specs.LeftImages.{MayBeLeft}
 use Rattle.zd_volume.specs.Uses.{IsPhase}
-use Rattle.zd_volume.specs.Volumes.{HasPointers, IsFixed, IsKeptVolume, IsNow, MayBe, PlainVolume, sets_of}
+use Rattle.zd_volume.specs.Volumes.{HasPointers, IsFixed, IsKeptVolume, IsNow, IsWhole, MayBe, PlainVolume, sets_of}
 use Rattle.zd_volume.specs.declared.phase.Phase.{Phase}
 use Rattle.zd_volume.proofs.Choices.{data_same, sets_same}
 use Rattle.zd_volume.proofs.Images.{left_step, safe_of, stages_stay}
@@ -37,6 +38,12 @@ pub pointers_stay : (g : Shape) (pointers : List ℕ) (z : ℕ) (old new : Image
     → ((y : ℕ) → y ≢ z → SameZone old new y) → HasPointers g pointers old → HasPointers g pointers new
 pointers_stay g pointers z old new conv others h = record {
   at = λ y seq l. h.at y seq l ∙ ap (λ (n : ℕ). rounded_up n 8) (sym (others y (omega arith)).held);
+}
+
+pub whole_stay : (g : Shape) (uses : List ZoneUse) (z : ℕ) (old new : Image) → z < g.conv
+    → ((y : ℕ) → y ≢ z → SameZone old new y) → IsWhole g uses old → IsWhole g uses new
+whole_stay g uses z old new conv others w = record {
+  at = λ y seq held. ap (λ (n : ℕ). n % 8) (others y (omega arith)).held ∙ w.at y seq held;
 }
 
 module _ (v : PlainVolume) (opening d : View) (was : IsKeptVolume v opening d) where
@@ -81,6 +88,9 @@ module _ (v : PlainVolume) (opening d : View) (was : IsKeptVolume v opening d) w
         (sets_same (sets_of v) was.fixed.sets r c of same) (data_same (sets_of v) was.fixed.sets r c same) now.read;
     pointers = record {
       at = λ z seq l. now.pointers.at z seq l ∙ ap (λ (n : ℕ). rounded_up n 8) (sym (same.zones z).held);
+    };
+    whole = record {
+      at = λ z seq held. ap (λ (n : ℕ). n % 8) (same.zones z).held ∙ now.whole.at z seq held;
     };
     copies = copies_stay (sets_of v) was.fixed.sets v.pointers v.buffer v.job was.fixed.job (base_at opening.zones)
         v.history r c (data_same (sets_of v) was.fixed.sets r c same) now.copies;

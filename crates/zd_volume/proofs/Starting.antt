@@ -1,5 +1,5 @@
 -- A volume that starts is one.
-use Rattle.std.proofs.Common.{◌≡◌, ℕ, ◌+◌, ◌-◌, ◌^◌, ◌<◌, List, [], length, slice_index_or, Bool, Option, Some, inl, refl, ap, sym, ◌∙◌, subst, arith}
+use Rattle.std.proofs.Common.{◌≡◌, ℕ, ◌+◌, ◌-◌, ◌^◌, ◌<◌, List, [], length, slice_index_or, Bool, Option, Some, inl, refl, ap, sym, ◌∙◌, subst, arith, inr}
 use Rattle.std.specs.Option.{option_map_or}
 use Rattle.zd_base.specs.Geometry.{Shape}
 use Rattle.zd_alloc.specs.Candidates.{Standings}
@@ -107,6 +107,7 @@ module _ (g : Shape) (head : Super) (bytes : List ℕ) (dirty : List Bool) (divi
     pub kept_start : IsKeptVolume (started g head bytes dirty division named pointers standings buffer) d d
     kept_start = record {
       tells = tells;
+      shows = λ r t. (r, t);
       fixed = fixed;
       counted = record {
         few = omega arith;
@@ -125,7 +126,17 @@ module _ (g : Shape) (head : Super) (bytes : List ℕ) (dirty : List Bool) (divi
           (base_size s fixed.sets r (of_reads r t) (opens.reads r t));
       legal = λ r t. record { answers = tt; in_time = tt };
       reads = λ _ r t. at_told r t (λ b. IsNow v b r)
-          (record { read = read r t; pointers = opens.pointers_are r t; copies = tt });
+          (record {
+            read = read r t;
+            pointers = opens.pointers_are r t;
+            whole = record {
+              at = λ z seq held. (opens.whole r t).at z seq (elim (fixed.uses.held z held) [
+                | inl n ↦ n
+                | inr t ↦ absurd t
+              ]);
+            };
+            copies = tt;
+          });
       stops = λ _ small r t c l. at_told r t (λ b. MayBeLeft Idle s b [] 0 c) (left r c t small l);
       safe = λ small r t k c within l.
           let at : d.calls + k ≡ d.calls = omega arith in

@@ -1,5 +1,5 @@
 -- When a volume may start over a disk, and what it starts as.
-use Rattle.std.specs.Prelude.{◌≡◌, ℕ, ◌-◌, ◌^◌, ◌<◌, List, [], Bool, None}
+use Rattle.std.specs.Prelude.{◌≡◌, ℕ, ◌-◌, ◌%◌, ◌^◌, ◌<◌, ◌≤◌, List, [], Bool, None}
 use Rattle.zd_base.specs.Geometry.{Shape}
 use Rattle.zd_alloc.specs.Candidates.{Standings}
 use Rattle.zd_alloc.specs.Zones.{Division}
@@ -10,6 +10,7 @@ use Rattle.zd_disk.specs.View.{View}
 use Rattle.zd_sets.specs.Stages.{HasSet}
 use Rattle.zd_tables.specs.Rules.{AreBelow}
 use Rattle.zd_volume.specs.declared.phase.Phase.TheVariants.{Idle}
+use Rattle.zd_volume.specs.Jobs.{IsNamed}
 use Rattle.zd_volume.specs.Sets.{Sets, device_sectors, new_tables, sector_by, used}
 use Rattle.zd_volume.specs.Sets.{second as second_zone}
 use Rattle.zd_volume.specs.Volumes.{HasPointers, PlainVolume}
@@ -20,11 +21,16 @@ pub record HoldsTables (s : Sets) (i : Image) : Type 0 where
   pub second : HasSet s.geometry (second_zone s) (used s) s.head s.new i
   pub below : AreBelow s.geometry i.held (new_tables s)
 
+-- the pointers of the sequential zones that the map names stand at blocks' ends
+pub record HasWholeZones (s : Sets) (i : Image) : Type 0 where
+  pub at : (z : ℕ) → s.geometry.conv ≤ z → IsNamed (new_tables s) z → i.held z % 8 ≡ 0
+
 -- what the disk reads as, and each image that a stop may leave, has these tables in both sets and
 -- serves the same
 pub record OpensAs (s : Sets) (pointers : List ℕ) (now : View) : Type 0 where
   pub reads : WhereTold now.zones (HoldsTables s)
   pub pointers_are : WhereTold now.zones (HasPointers s.geometry pointers)
+  pub whole : WhereTold now.zones (HasWholeZones s)
   pub leaves : now.calls < 2 ^ 64 - 1 → WhereTold now.zones (λ _.
       (c : Image) → now.left now.calls c → HoldsTables s c)
   pub content : now.calls < 2 ^ 64 - 1 → WhereTold now.zones (λ r.

@@ -1,11 +1,13 @@
 -- A volume's own values, and what is always true of them and of its disk.
-use Rattle.std.specs.Prelude.{◌≡◌, ℕ, ◌+◌, ◌-◌, ◌*◌, ◌^◌, ◌<◌, ◌≤◌, List, length, slice_index, Bool}
+use Rattle.std.specs.Prelude.{◌≡◌, ℕ, ◌+◌, ◌-◌, ◌*◌, ◌%◌, ◌^◌, ◌<◌, ◌≤◌, List, length, slice_index, Bool}
 use Rattle.std.specs.Prelude.{Option, Some, None}
 use Rattle.zd_base.specs.Geometry.{Shape, zone_count}
 use Rattle.zd_base.specs.Layout.{rounded_up}
 use Rattle.zd_base.specs.declared.numbers.Why.{Why}
 use Rattle.zd_alloc.specs.Candidates.{Standings}
-use Rattle.zd_alloc.specs.Zones.{Division}
+use Rattle.zd_alloc.specs.Zones.{Division, use_at}
+use Rattle.zd_alloc.specs.declared.uses.ZoneUse.{ZoneUse}
+use Rattle.zd_alloc.specs.declared.uses.ZoneUse.TheVariants.{Held}
 use Rattle.zd_model.specs.History.{HistoryEntry, IsLegal}
 use Rattle.zd_model.specs.Image.{Image}
 use Rattle.zd_model.specs.Safe.{IsSafe, base_at}
@@ -79,10 +81,15 @@ pub record HasPointers (g : Shape) (pointers : List ℕ) (i : Image) : Type 0 wh
   pub at : (z : ℕ) → g.conv ≤ z → z < zone_count g →
       slice_index pointers z ≡ rounded_up (i.held z) 8
 
+-- the pointers of the sequential zones that are held stand at blocks' ends
+pub record IsWhole (g : Shape) (uses : List ZoneUse) (i : Image) : Type 0 where
+  pub at : (z : ℕ) → g.conv ≤ z → use_at uses z ≡ Held → i.held z % 8 ≡ 0
+
 -- what the disk reads as now
 pub record IsNow (v : PlainVolume) (base : List (List ℕ)) (i : Image) : Type 0 where
   pub read : ReadsAs v.phase (sets_of v) base v.history i
   pub pointers : HasPointers v.geometry v.pointers i
+  pub whole : IsWhole v.geometry v.division.zones i
   pub copies : HasCopies (sets_of v) v.buffer v.job base v.history i
 
 -- what a stop may leave now
@@ -93,6 +100,8 @@ MayBe v base i = MayBeLeft v.phase (sets_of v) base v.history v.since i
 -- tells that now
 pub record IsKeptVolume (v : PlainVolume) (opening now : View) : Type 0 where
   pub tells : now.told ≡ Some v.geometry
+  -- the disk tells what it reads as where it did when opening ended
+  pub shows : WhereTold opening.zones (λ _. (i : Image) × (now.zones ≡ Some i))
   pub fixed : IsFixed v
   pub counted : CountsSince v opening.calls now.calls
   pub faulted : TellsFaults v.history v.stopped opening.faults now.faults
@@ -121,6 +130,7 @@ pub record MakesCall (v w : PlainVolume) (u x : View) (step : Image → Image �
   pub grows : x.calls < 2 ^ 64 - 1 → WhereTold u.zones (λ r.
       Grows u.calls u.left x.left (step r) (step r))
   pub from : (j : Image) → x.zones ≡ Some j → (r : Image) × (u.zones ≡ Some r)
+  pub shows : WhereTold u.zones (λ _. (j : Image) × (x.zones ≡ Some j))
 
 -- what is known before a call, of the image that the disk reads as and of one that a stop might
 -- leave; and that the image after it is one of the same geometry

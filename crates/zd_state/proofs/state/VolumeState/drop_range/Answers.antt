@@ -7,8 +7,8 @@ use Rattle.zd_volume.specs.Sets.{new_tables}
 use Rattle.zd_volume.specs.Volumes.{sets_of}
 use Rattle.zd_state.proofs.state.VolumeState.drop_range.Goals as goal
 
-pub clear_blocks-requires-clause-zone : goal.clear_blocks-requires-clause-zone
-clear_blocks-requires-clause-zone c =
+pub give_blocks-requires-clause-zone : goal.give_blocks-requires-clause-zone
+give_blocks-requires-clause-zone c =
     let v = c.args.self.now.plain in
     let chunk = c.cover-block.result.0 / c.from-zone_blocks.result in
     let entry : c.entry-entry.result ≡ entry_of (new_tables (sets_of v)) chunk =
@@ -16,14 +16,14 @@ clear_blocks-requires-clause-zone c =
     λ z names.
     zone_there v.geometry v.head.layout v.fresh c.requires.fixed.sets.new_rules chunk c.entry-entry.result entry z names
 
-pub clear_blocks-requires-2-clause-zone : goal.clear_blocks-requires-2-clause-zone
-clear_blocks-requires-2-clause-zone c =
+pub give_blocks-requires-2-clause-zone : goal.give_blocks-requires-2-clause-zone
+give_blocks-requires-2-clause-zone c =
     let v = c.args.self.now.plain in
     let chunk = c.cover-block.result.0 / c.from-zone_blocks.result in
     let entry : c.entry-entry.result ≡ entry_of (new_tables (sets_of v)) chunk =
     rw (← c.self.view_is) (rw c.self.invariant at c.entry-entry.ensures) in
     λ z names.
-    rw c.clear_blocks.ensures.rest
+    rw c.give_blocks.ensures.rest
     (buffer_there v.geometry v.head.layout v.fresh c.requires.fixed.sets.new_rules chunk c.entry-entry.result entry z
     names)
 
@@ -38,10 +38,10 @@ reclass-requires-clause-rules c =
     rules_dropped v c.requires.fixed c.args.piece.now c.requires.piece chunk _ c.cover-block.result.1
     (rw (c.cover-block.ensures.first, size) refl) (rw (c.cover-block.ensures.first, size) refl)
     c.cover-block.ensures.count c.entry-entry.result entry
-    c.clear_blocks.new.self.plain (ap (λ (k : KeptState). k.plain) c.clear_blocks.ensures.rest)
-    c.clear_blocks.ensures.gives
-    c.clear_blocks-2.new.self.plain (ap (λ (k : KeptState). k.plain) c.clear_blocks-2.ensures.rest)
-    c.clear_blocks-2.ensures.gives
+    c.give_blocks.new.self.plain (ap (λ (k : KeptState). k.plain) c.give_blocks.ensures.rest)
+    c.give_blocks.ensures.gives
+    c.give_blocks-2.new.self.plain (ap (λ (k : KeptState). k.plain) c.give_blocks-2.ensures.rest)
+    c.give_blocks-2.ensures.gives
 
 pub returns-clause-dropped : goal.returns-clause-dropped
 returns-clause-dropped c =
@@ -54,9 +54,9 @@ returns-clause-dropped c =
     drops_in_steps v c.requires.fixed c.args.piece.now c.requires.piece chunk _ c.cover-block.result.1
     (rw (c.cover-block.ensures.first, size) refl) (rw (c.cover-block.ensures.first, size) refl)
     c.cover-block.ensures.count c.entry-entry.result entry
-    c.clear_blocks.new.self.plain (ap (λ (k : KeptState). k.plain) c.clear_blocks.ensures.rest)
-    c.clear_blocks.ensures.gives
-    c.clear_blocks-2.new.self.plain (ap (λ (k : KeptState). k.plain) c.clear_blocks-2.ensures.rest)
-    c.clear_blocks-2.ensures.gives
+    c.give_blocks.new.self.plain (ap (λ (k : KeptState). k.plain) c.give_blocks.ensures.rest)
+    c.give_blocks.ensures.gives
+    c.give_blocks-2.new.self.plain (ap (λ (k : KeptState). k.plain) c.give_blocks-2.ensures.rest)
+    c.give_blocks-2.ensures.gives
     c.reclass.new.self.plain (ap (λ (k : KeptState). k.plain) c.reclass.ensures.rest) c.reclass.ensures.gives
     c.enter_done.new.self.plain c.enter_done.ensures.plain

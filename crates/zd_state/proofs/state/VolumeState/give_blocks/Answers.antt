@@ -2,7 +2,7 @@ use Rattle.std.proofs.Common.{◌≡◌, ◌+◌, ◌∙◌, ap, false, length, 
 use Rattle.std.proofs.lemmas.List.{take_at}
 use Rattle.zd_state.proofs.DiscardSteps.{gives_in, second_there}
 use Rattle.zd_tables.specs.Held.{tables_held}
-use Rattle.zd_state.proofs.state.VolumeState.clear_blocks.Goals as goal
+use Rattle.zd_state.proofs.state.VolumeState.give_blocks.Goals as goal
 
 pub mark-requires-clause-second : goal.mark-requires-clause-second
 mark-requires-clause-second c =
