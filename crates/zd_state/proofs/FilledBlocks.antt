@@ -1,0 +1,78 @@
+-- Bytes of which some whole sectors are written over, sector by sector.
+use Rattle.std.proofs.Common.{◌≡◌, ◌≢◌, ◌⊎◌, ℕ, ◌+◌, ◌-◌, ◌*◌, ◌<◌, ◌≤◌, List, [], ◌∷◌, ◌++◌, length, take, drop, replicate, inl, inr, refl, sym, ap, ◌∙◌, arith}
+use Rattle.std.proofs.Math.Seq.{drop-append_seam}
+use Rattle.std.proofs.lemmas.List.{drop-drop, drop-replicate, drop-take, length-append, length-drop, length-take-le, take-append-le, take-replicate, take_all}
+use Rattle.std.proofs.lemmas.Slice.{drop-put_mid, take-put_mid_below}
+use Rattle.zd_disk.specs.Steps.{piece}
+use Rattle.zd_model.specs.Bytes.{zero_sector}
+use Rattle.zd_routes.specs.Edges.{edge_sector}
+use borrow.Rule.Slice.PartMut.{post_of, put_mid}
+
+-- a sector stands at the end of the bytes up to its own
+at_end : (bytes : List ℕ) (j : ℕ) → piece bytes j ≡ drop (512 * j) (take (512 * j + 512) bytes)
+at_end bytes j = sym (drop-take (512 * j) 512 bytes)
+
+-- a sector of the front
+front_piece : (front rest : List ℕ) (j : ℕ) → 512 * j + 512 ≤ length front → piece (front ++ rest) j ≡ piece front j
+front_piece front rest j fits =
+    at_end (front ++ rest) j ∙ ap (drop (512 * j)) (take-append-le (512 * j + 512) front rest fits) ∙ sym (at_end front j)
+
+-- a sector behind the front
+rest_piece : (front rest : List ℕ) (at j : ℕ) → length front ≡ 512 * at → piece (front ++ rest) (at + j) ≡ piece rest j
+rest_piece front rest at j size =
+    ap (take 512)
+    (ap (λ (n : ℕ). drop n (front ++ rest)) (let e : 512 * (at + j) ≡ length front + 512 * j = omega (arith, size) in e)
+    ∙ sym (drop-drop (512 * j) (length front) (front ++ rest))
+    ∙ ap (drop (512 * j)) (drop-append_seam front rest))
+
+-- n sectors from sector `at` on are these, and the others are as they were
+pub record PutsSectors (at n : ℕ) (bytes old new : List ℕ) : Type 0 where
+  pub size : length new ≡ length old
+  pub put : (j : ℕ) → j < n → piece new (at + j) ≡ piece bytes j
+  pub others : (j : ℕ) → (j < at) ⊎ (at + n ≤ j) → piece new j ≡ piece old j
+
+-- what a write to a part of a slice leaves, where that is whole sectors
+module _ (old bytes : List ℕ) (at n a k : ℕ) (starts : a ≡ 512 * at) (long : k ≡ 512 * n) (size : length bytes ≡ 512 * n)
+    (fits : 512 * (at + n) ≤ length old) where
+  total : length (put_mid a k old bytes) ≡ length old
+  total =
+      let front = length-take-le a old (omega (arith, starts, fits)) in
+      omega (arith, starts, long, size, fits, front, length-append (take a old) (bytes ++ post_of a k old),
+      length-append bytes (post_of a k old), length-drop k (drop a old), length-drop a old)
+
+  pub puts_sectors : PutsSectors at n bytes old (put_mid a k old bytes)
+  puts_sectors = record {
+    size = total;
+    put = λ j low.
+        rest_piece (take a old) (bytes ++ post_of a k old) at j
+        (length-take-le a old (omega (arith, starts, fits)) ∙ starts)
+        ∙ front_piece bytes (post_of a k old) j (omega (arith, size, low));
+    others = λ j out. elim out [
+      | inl before ↦
+          at_end (put_mid a k old bytes) j
+          ∙ ap (drop (512 * j))
+          (take-put_mid_below a k old bytes (512 * j + 512) (omega (arith, starts, before))
+          (omega (arith, starts, fits)))
+          ∙ sym (at_end old j)
+      | inr behind ↦
+          ap (take 512)
+          (drop-put_mid a k old bytes (512 * j) (omega (arith, starts, long, behind)) (omega (arith, starts, fits))
+          (omega (arith, size, long)))
+    ];
+  }
+
+-- one sector
+pub whole_piece : (bytes : List ℕ) → length bytes ≡ 512 → piece bytes 0 ≡ bytes
+whole_piece bytes size = take_all 512 bytes (omega (arith, size))
+
+-- sectors of zeros
+pub zero_pieces : (j : ℕ) → j < 8 → piece (replicate 4096 0) j ≡ zero_sector
+unfolding zero_sector
+zero_pieces j low =
+    ap (take 512) (drop-replicate {X = ℕ} (512 * j) 4096 0)
+    ∙ take-replicate {X = ℕ} 512 (4096 - 512 * j) 0 (omega (arith, low))
+
+-- an edge that is there
+pub full_edge : (bytes : List ℕ) (j : ℕ) → bytes ≢ [] → edge_sector bytes j ≡ piece bytes j
+full_edge [] j some = absurd (some refl)
+full_edge (b ∷ bytes) j some = refl
