@@ -1,11 +1,18 @@
 -- Bytes of which some whole sectors are written over, sector by sector.
-use Rattle.std.proofs.Common.{◌≡◌, ◌≢◌, ◌⊎◌, ℕ, ◌+◌, ◌-◌, ◌*◌, ◌<◌, ◌≤◌, List, [], ◌∷◌, ◌++◌, length, take, drop, replicate, inl, inr, refl, sym, ap, ◌∙◌, arith}
+use Rattle.std.proofs.Common.{◌≡◌, ◌≢◌, ◌⊎◌, ℕ, ◌+◌, ◌-◌, ◌*◌, ◌%◌, ◌<◌, ◌≤◌, true, List, [], ◌∷◌, ◌++◌, length, take, drop, replicate}
+use Rattle.std.proofs.Common.{Option, Some, IsSomeAnd, inl, inr, refl, sym, ap, ◌∙◌, subst, arith}
 use Rattle.std.proofs.Math.Seq.{drop-append_seam}
+use Rattle.std.proofs.lemmas.Bool.{cases_lt}
 use Rattle.std.proofs.lemmas.List.{drop-drop, drop-replicate, drop-take, length-append, length-drop, length-take-le, take-append-le, take-replicate, take_all}
 use Rattle.std.proofs.lemmas.Slice.{drop-put_mid, take-put_mid_below}
 use Rattle.zd_disk.specs.Steps.{piece}
 use Rattle.zd_model.specs.Bytes.{zero_sector}
-use Rattle.zd_routes.specs.Edges.{edge_sector}
+use Rattle.zd_model.specs.Plain.{pattern, put_by}
+use Rattle.zd_model.specs.Requests.{block_count, first_block, first_sector, sector_count}
+use Rattle.zd_model.specs.Stops.{Covers}
+use Rattle.zd_model.specs.declared.requests.What.{What}
+use Rattle.zd_routes.specs.Edges.{FillsBlocks, edge_sector, is_in_part}
+use Rattle.zd_routes.proofs.MergedBlocks.{in_part_by}
 use borrow.Rule.Slice.PartMut.{post_of, put_mid}
 
 -- a sector stands at the end of the bytes up to its own
@@ -76,3 +83,52 @@ zero_pieces j low =
 pub full_edge : (bytes : List ℕ) (j : ℕ) → bytes ≢ [] → edge_sector bytes j ≡ piece bytes j
 full_edge [] j some = absurd (some refl)
 full_edge (b ∷ bytes) j some = refl
+
+-- THE BLOCKS OF A WRITE, whose patterns were put over the edges
+module _ (what : What) (first last edged bytes : List ℕ) (seed : ℕ) (size : length bytes ≡ 4096 * block_count what)
+    (by : put_by what ≡ Some (pattern seed))
+    (has_first : is_in_part what (first_block what) ≡ true
+    → (j : ℕ) → j < 8 → piece edged j ≡ edge_sector first j)
+    (has_last : 2 ≤ block_count what → is_in_part what (first_block what + block_count what - 1) ≡ true
+    → (j : ℕ) → j < 8 → piece edged (8 * (block_count what - 1) + j) ≡ edge_sector last j)
+    (put : (j : ℕ) → j < sector_count what
+    → piece bytes (first_sector what % 8 + j) ≡ pattern seed (first_sector what + j))
+    (others : (j : ℕ) → (j < first_sector what % 8) ⊎ (first_sector what % 8 + sector_count what ≤ j)
+    → piece bytes j ≡ piece edged j) where
+  -- a sector that isn't touched is as the edges have it
+  untouched : (j : ℕ) → (Covers what (8 * first_block what + j) → ⊥) → piece bytes j ≡ piece edged j
+  untouched j off = elim (cases_lt j (first_sector what % 8)) [
+    | inl before ↦ others j (inl before)
+    | inr from ↦ elim (cases_lt j (first_sector what % 8 + sector_count what)) [
+      | inl inside ↦ absurd (off (omega (arith, from), omega (arith, inside)))
+      | inr behind ↦ others j (inr behind)
+    ]
+  ]
+
+  put_at : (n : ℕ) → Covers what n → piece bytes (n - 8 * first_block what) ≡ pattern seed n
+  put_at n covers =
+      let from = covers.0 in
+      let below = covers.1 in
+      let j : ℕ = n - first_sector what in
+      ap (piece bytes) (let e : n - 8 * first_block what ≡ first_sector what % 8 + j = omega (arith, from) in e)
+      ∙ put j (omega (arith, from, below))
+      ∙ ap (pattern seed) (let e : first_sector what + j ≡ n = omega (arith, from) in e)
+
+  pub fills_blocks : FillsBlocks what first last bytes
+  fills_blocks = record {
+    size = size;
+    puts = λ n covers.
+        subst (λ (o : Option (ℕ → List ℕ)). IsSomeAnd o (λ put. piece bytes (n - 8 * first_block what) ≡ put n))
+        (sym by) (put_at n covers);
+    before = λ j few off.
+        untouched j off
+        ∙ has_first (in_part_by what (first_block what) (8 * first_block what + j) (omega (arith, few)) off) j few;
+    behind = λ two j few off.
+        let place : 8 * (first_block what + block_count what - 1) + j
+            ≡ 8 * first_block what + (8 * (block_count what - 1) + j) = omega (arith, two) in
+        untouched (8 * (block_count what - 1) + j) (λ covers. off (subst (Covers what) (sym place) covers))
+        ∙ has_last two
+        (in_part_by what (first_block what + block_count what - 1)
+        (8 * (first_block what + block_count what - 1) + j) (omega (arith, few)) off)
+        j few;
+  }
