@@ -5,3 +5,4 @@ pub mod StartValues
 pub mod DiscardSteps
 pub mod HeldZones
 pub mod FilledBlocks
+pub mod EdgeReads

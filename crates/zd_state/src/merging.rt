@@ -14,9 +14,10 @@ ghost use Rattle.zd_volume.specs.Sets.{AreSets};
 ghost use Rattle.zd_volume.specs.Volumes.{sets_of};
 
 use crate::filling::is_in_part;
+use crate::reading::read_behind;
 use crate::state::VolumeState;
 use crate::volume::Volume;
-use zd_base::{BLOCK, ChunkNo, Failed, Why, ZoneNo};
+use zd_base::{ChunkNo, Failed, Why, ZoneNo};
 use zd_disk::ZonedDisk;
 use zd_model::{Bytes, Piece};
 use zd_routes::{Edge, Edges};
@@ -101,8 +102,7 @@ fn read_edge<D: ZonedDisk>(
     ensures cause { Fails result (D.view disk.old) (D.view disk.new) }
 {
     let (zone, place) = state.place_of(block);
-    into.add_zeros(BLOCK);
-    let read = disk.read(zone.unwrap(), BLOCK_SECTORS * place, into.bytes_mut());
+    let read = read_behind(disk, zone.unwrap(), BLOCK_SECTORS * place, BLOCK_SECTORS, into);
     if read.is_err() {
         into.clear();
     }
