@@ -6,3 +6,4 @@ pub mod DiscardSteps
 pub mod HeldZones
 pub mod FilledBlocks
 pub mod EdgeReads
+pub mod EdgeSteps
