@@ -1,5 +1,4 @@
--- Where the blocks of a write stand in memory and on the disk: their numbers are small, and a valid one is read from
--- its place.
+-- A valid block of the device is read from its place in its zone.
 use Rattle.std.proofs.Common.{◌≡◌, ℕ, ◌+◌, ◌-◌, ◌*◌, ◌/◌, ◌%◌, ◌^◌, ◌<◌, ◌≤◌, List, Some, sym, ap, ◌∙◌, arith}
 use Rattle.std.proofs.Math.Nat.{mul-le-mul_right}
 use Rattle.zd_model.specs.Image.{Image, run_of}
@@ -19,43 +18,6 @@ use Rattle.zd_routes.specs.Edges.{block_served}
 use Rattle.zd_routes.specs.Routes.{WritesBlocks}
 use Rattle.zd_routes.proofs.WriteCovers.{block_within, within_device}
 
-module _ (s : Sets) (are : AreSets s) where
-  device_small : device_sectors s ≤ 2 ^ 35
-  device_small =
-      let room = are.fits.room in
-      let most = are.shape.count.most in
-      let size = are.shape.size.most in
-      let all = mul-le-mul_right {m = s.head.layout.chunks} {n = 65536} s.geometry.zone_blocks
-      (omega (arith, room, most)) in
-      let total : device_sectors s ≡ 8 * (s.head.layout.chunks * s.geometry.zone_blocks) = omega arith in
-      omega (arith, size, all, total)
-
-  module _ (what : What) (is : WritesBlocks s what) where
-    -- a write touches some block
-    pub some_block : 1 ≤ block_count what
-    some_block = (let some = is.some in omega (arith, some))
-
-    pub blocks_small : first_block what + block_count what ≤ 2 ^ 32
-    blocks_small =
-        let some = some_block in
-        let last = within_device s what is (8 * (first_block what + block_count what) - 1) (omega (arith, some)) in
-        let small = device_small in
-        omega (arith, some, last, small)
-
-    pub sectors_small : first_sector what + sector_count what < 2 ^ 64
-    sectors_small = (let small = blocks_small in omega (arith, small))
-
-    -- each of its blocks is one of its chunk
-    pub block_there : (block : ℕ) → first_block what ≤ block → block < first_block what + block_count what
-        → block / s.geometry.zone_blocks < s.head.layout.chunks
-    block_there block from below =
-        let there = is.there in
-        let chunk = (block_within s what is (8 * block) (omega (arith, from)) (omega (arith, below))).0 in
-        let same : 8 * block / 8 ≡ block = omega arith in
-        let at = ap (λ (x : ℕ). x / s.geometry.zone_blocks) same in
-        omega (arith, there, chunk, at)
-
--- A VALID BLOCK of the device, in its zone
 module _ (v : PlainVolume) (are : AreSets (sets_of v)) (block z : ℕ)
     (is : place_now v (block / v.geometry.zone_blocks) (block % v.geometry.zone_blocks) ≡ Some z) where
   inside : block % v.geometry.zone_blocks < v.geometry.zone_blocks

@@ -1,17 +1,25 @@
 -- Bytes of which some whole sectors are written over, sector by sector.
-use Rattle.std.proofs.Common.{◌≡◌, ◌≢◌, ◌⊎◌, ℕ, ◌+◌, ◌-◌, ◌*◌, ◌%◌, ◌<◌, ◌≤◌, true, List, [], ◌∷◌, ◌++◌, length, take, drop, replicate}
+use Rattle.std.proofs.Common.{◌≡◌, ◌≢◌, ◌⊎◌, ℕ, ◌+◌, ◌-◌, ◌*◌, ◌/◌, ◌%◌, ◌<◌, ◌≤◌, true, List, [], ◌∷◌, ◌++◌, length, take, drop, replicate}
 use Rattle.std.proofs.Common.{Option, Some, IsSomeAnd, inl, inr, refl, sym, ap, ◌∙◌, subst, arith}
 use Rattle.std.proofs.Math.Seq.{drop-append_seam}
-use Rattle.std.proofs.lemmas.Bool.{cases_lt}
+use Rattle.std.proofs.lemmas.Bool.{cases_Bool, cases_lt}
 use Rattle.std.proofs.lemmas.List.{drop-drop, drop-replicate, drop-take, length-append, length-drop, length-take-le, take-append-le, take-replicate, take_all}
 use Rattle.std.proofs.lemmas.Slice.{drop-put_mid, take-put_mid_below}
 use Rattle.zd_disk.specs.Steps.{piece}
 use Rattle.zd_model.specs.Bytes.{zero_sector}
+use Rattle.zd_model.specs.Image.{Image}
 use Rattle.zd_model.specs.Plain.{pattern, put_by}
 use Rattle.zd_model.specs.Requests.{block_count, first_block, first_sector, sector_count}
 use Rattle.zd_model.specs.Stops.{Covers}
 use Rattle.zd_model.specs.declared.requests.What.{What}
-use Rattle.zd_routes.specs.Edges.{FillsBlocks, edge_sector, is_in_part}
+use Rattle.zd_model.proofs.FaultLaws.{none_some}
+use Rattle.zd_volume.specs.Flights.{place_now}
+use Rattle.zd_volume.specs.Volumes.{PlainVolume}
+use Rattle.zd_volume.proofs.PlaceLaws.{cases_place}
+use Rattle.zd_routes.specs.Edges.{AreEdges, FillsBlocks, HasEdge, bytes_at, edge_block, edge_sector, is_in_part}
+use Rattle.zd_routes.specs.declared.edges.Edge.{Edge}
+use Rattle.zd_routes.specs.declared.edges.Edge.TheVariants.{First, Last}
+use Rattle.zd_routes.specs.declared.edges.Edges.{Edges}
 use Rattle.zd_routes.proofs.MergedBlocks.{in_part_by}
 use borrow.Rule.Slice.PartMut.{post_of, put_mid}
 
@@ -132,3 +140,30 @@ module _ (what : What) (first last edged bytes : List ℕ) (seed : ℕ) (size : 
         (8 * (first_block what + block_count what - 1) + j) (omega (arith, few)) off)
         j few;
   }
+
+-- an edge of a write is empty or whole
+module _ (v : PlainVolume) (told : Option Image) (what : What) (e : Edges) (edges : AreEdges v told what e) where
+  whole_if : (edge : Edge) → (HasEdge what edge) ⊎ (HasEdge what edge → ⊥)
+      → (bytes_at e edge ≡ []) ⊎ (length (bytes_at e edge) ≡ 4096)
+  whole_if edge (inr no) = inl (edges.others edge (λ needs. no needs.has))
+  whole_if edge (inl has) = elim (cases_place (place_now v (edge_block what edge / v.geometry.zone_blocks)
+      (edge_block what edge % v.geometry.zone_blocks))) [
+    | inl none ↦ inl (edges.others edge (λ needs. needs.valid none))
+    | inr at ↦ inr (edges.needed edge (record { has = has; valid = λ none. none_some at.0 (sym none ∙ at.1) })).size
+  ]
+
+  has_edge : (edge : Edge) → (HasEdge what edge) ⊎ (HasEdge what edge → ⊥)
+  has_edge First = elim (cases_Bool (is_in_part what (first_block what))) [
+    | inl yes ↦ inl yes
+    | inr no ↦ inr (λ has. let f : ⊥ = cc in f)
+  ]
+  has_edge Last = elim (cases_Bool (is_in_part what (first_block what + block_count what - 1))) [
+    | inl yes ↦ elim (cases_lt (block_count what) 2) [
+      | inl one ↦ inr (λ has. let f : ⊥ = omega (arith, one, has.0) in f)
+      | inr more ↦ inl (more, yes)
+    ]
+    | inr no ↦ inr (λ has. let yes = has.1 in let f : ⊥ = cc in f)
+  ]
+
+  pub whole_edge : (edge : Edge) → (bytes_at e edge ≡ []) ⊎ (length (bytes_at e edge) ≡ 4096)
+  whole_edge edge = whole_if edge (has_edge edge)
