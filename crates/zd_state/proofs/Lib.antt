@@ -7,3 +7,5 @@ pub mod HeldZones
 pub mod FilledBlocks
 pub mod EdgeReads
 pub mod EdgeSteps
+pub mod MapSteps
+pub mod WriteSteps
