@@ -1,22 +1,15 @@
 -- A valid block of the device is read from its place in its zone.
-use Rattle.std.proofs.Common.{◌≡◌, ℕ, ◌+◌, ◌-◌, ◌*◌, ◌/◌, ◌%◌, ◌^◌, ◌<◌, ◌≤◌, List, Some, sym, ap, ◌∙◌, arith}
-use Rattle.std.proofs.Math.Nat.{mul-le-mul_right}
+use Rattle.std.proofs.Common.{◌≡◌, ℕ, ◌+◌, ◌*◌, ◌/◌, ◌%◌, ◌<◌, ◌≤◌, Some, sym, ap, ◌∙◌, arith}
 use Rattle.zd_model.specs.Image.{Image, run_of}
-use Rattle.zd_model.specs.Places.{zone_at}
-use Rattle.zd_model.specs.Requests.{block_count, first_block, first_sector, sector_count}
-use Rattle.zd_model.specs.declared.requests.What.{What}
 use Rattle.zd_model.proofs.ServedLaws.{placed, same_joined}
 use Rattle.zd_disk.specs.OfGeometry.{IsImageOf}
 use Rattle.zd_disk.specs.Told.{IsInside}
 use Rattle.zd_tables.specs.Rules.{AreBelow}
-use Rattle.zd_volume.specs.Discards.{chunk_touched}
 use Rattle.zd_volume.specs.Flights.{place_now, tables_now}
-use Rattle.zd_volume.specs.Sets.{AreSets, Sets, device_sectors, sector_by}
+use Rattle.zd_volume.specs.Sets.{AreSets, sector_by}
 use Rattle.zd_volume.specs.Volumes.{PlainVolume, sets_of}
 use Rattle.zd_volume.proofs.FlightLaws.{run_held, run_zone}
 use Rattle.zd_routes.specs.Edges.{block_served}
-use Rattle.zd_routes.specs.Routes.{WritesBlocks}
-use Rattle.zd_routes.proofs.WriteCovers.{block_within, within_device}
 
 module _ (v : PlainVolume) (are : AreSets (sets_of v)) (block z : ℕ)
     (is : place_now v (block / v.geometry.zone_blocks) (block % v.geometry.zone_blocks) ≡ Some z) where

@@ -1,5 +1,5 @@
 -- The edges of a write after the read of one of them, which answered this.
-use Rattle.std.proofs.Common.{◌≡◌, ◌≢◌, ℕ, ◌+◌, ◌≤◌, List, [], length, Option, Result, Ok, Err, OnErr, OnOk, refl, sym, ap, ◌∙◌, subst}
+use Rattle.std.proofs.Common.{◌≡◌, ◌≢◌, ℕ, ◌+◌, ◌≤◌, [], length, Option, Result, Ok, Err, OnErr, OnOk, refl}
 use Rattle.zd_model.specs.Image.{Image}
 use Rattle.zd_model.specs.Room.{ListWithRoom}
 use Rattle.zd_model.specs.declared.requests.What.{What}
@@ -48,9 +48,9 @@ module _ {T E : Type 0} (v : PlainVolume) (told : Option Image) (what : What) (o
     first_may_be was = record {
       read = λ edge. elim edge as (λ (e : Edge). bytes_at (record { first = bytes; last = old.last }) e ≢ []
           → NeedsEdge v what e × HoldsEdge v told what e (bytes_at (record { first = bytes; last = old.last }) e)) [
-        | First ↦ read_one First is.next.needs r (holds First r is.size is.value) is.err
-        | Last ↦ was.read Last
-      ];
+            | First ↦ read_one First is.next.needs r (holds First r is.size is.value) is.err
+            | Last ↦ was.read Last
+          ];
       first_room = is.room;
       last_room = was.last_room;
     }
@@ -64,9 +64,9 @@ module _ {T E : Type 0} (v : PlainVolume) (told : Option Image) (what : What) (o
     last_may_be was = record {
       read = λ edge. elim edge as (λ (e : Edge). bytes_at (record { first = old.first; last = bytes }) e ≢ []
           → NeedsEdge v what e × HoldsEdge v told what e (bytes_at (record { first = old.first; last = bytes }) e)) [
-        | First ↦ was.read First
-        | Last ↦ read_one Last is.next.0.needs r (holds Last r is.size is.value) is.err
-      ];
+            | First ↦ was.read First
+            | Last ↦ read_one Last is.next.0.needs r (holds Last r is.size is.value) is.err
+          ];
       first_room = was.first_room;
       last_room = is.room;
     }

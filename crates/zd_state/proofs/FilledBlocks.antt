@@ -52,8 +52,18 @@ module _ (old bytes : List ℕ) (at n a k : ℕ) (starts : a ≡ 512 * at) (long
   total : length (put_mid a k old bytes) ≡ length old
   total =
       let front = length-take-le a old (omega (arith, starts, fits)) in
-      omega (arith, starts, long, size, fits, front, length-append (take a old) (bytes ++ post_of a k old),
-      length-append bytes (post_of a k old), length-drop k (drop a old), length-drop a old)
+      omega (
+        arith,
+        starts,
+        long,
+        size,
+        fits,
+        front,
+        length-append (take a old) (bytes ++ post_of a k old),
+        length-append bytes (post_of a k old),
+        length-drop k (drop a old),
+        length-drop a old,
+      )
 
   pub puts_sectors : PutsSectors at n bytes old (put_mid a k old bytes)
   puts_sectors = record {
@@ -133,7 +143,7 @@ module _ (what : What) (first last edged bytes : List ℕ) (seed : ℕ) (size : 
         ∙ has_first (in_part_by what (first_block what) (8 * first_block what + j) (omega (arith, few)) off) j few;
     behind = λ two j few off.
         let place : 8 * (first_block what + block_count what - 1) + j
-            ≡ 8 * first_block what + (8 * (block_count what - 1) + j) = omega (arith, two) in
+        ≡ 8 * first_block what + (8 * (block_count what - 1) + j) = omega (arith, two) in
         untouched (8 * (block_count what - 1) + j) (λ covers. off (subst (Covers what) (sym place) covers))
         ∙ has_last two
         (in_part_by what (first_block what + block_count what - 1)
@@ -145,24 +155,24 @@ module _ (what : What) (first last edged bytes : List ℕ) (seed : ℕ) (size : 
 module _ (v : PlainVolume) (told : Option Image) (what : What) (e : Edges) (edges : AreEdges v told what e) where
   whole_if : (edge : Edge) → (HasEdge what edge) ⊎ (HasEdge what edge → ⊥)
       → (bytes_at e edge ≡ []) ⊎ (length (bytes_at e edge) ≡ 4096)
-  whole_if edge (inr no) = inl (edges.others edge (λ needs. no needs.has))
+  whole_if edge (inr without) = inl (edges.others edge (λ needs. without needs.has))
   whole_if edge (inl has) = elim (cases_place (place_now v (edge_block what edge / v.geometry.zone_blocks)
       (edge_block what edge % v.geometry.zone_blocks))) [
-    | inl none ↦ inl (edges.others edge (λ needs. needs.valid none))
-    | inr at ↦ inr (edges.needed edge (record { has = has; valid = λ none. none_some at.0 (sym none ∙ at.1) })).size
-  ]
+        | inl none ↦ inl (edges.others edge (λ needs. needs.valid none))
+        | inr at ↦ inr (edges.needed edge (record { has = has; valid = λ none. none_some at.0 (sym none ∙ at.1) })).size
+      ]
 
   has_edge : (edge : Edge) → (HasEdge what edge) ⊎ (HasEdge what edge → ⊥)
   has_edge First = elim (cases_Bool (is_in_part what (first_block what))) [
-    | inl yes ↦ inl yes
-    | inr no ↦ inr (λ has. let f : ⊥ = cc in f)
+    | inl part ↦ inl part
+    | inr whole ↦ inr (λ has. let f : ⊥ = cc in f)
   ]
   has_edge Last = elim (cases_Bool (is_in_part what (first_block what + block_count what - 1))) [
-    | inl yes ↦ elim (cases_lt (block_count what) 2) [
+    | inl part ↦ elim (cases_lt (block_count what) 2) [
       | inl one ↦ inr (λ has. let f : ⊥ = omega (arith, one, has.0) in f)
-      | inr more ↦ inl (more, yes)
+      | inr more ↦ inl (more, part)
     ]
-    | inr no ↦ inr (λ has. let yes = has.1 in let f : ⊥ = cc in f)
+    | inr whole ↦ inr (λ has. let part = has.1 in let f : ⊥ = cc in f)
   ]
 
   pub whole_edge : (edge : Edge) → (bytes_at e edge ≡ []) ⊎ (length (bytes_at e edge) ≡ 4096)

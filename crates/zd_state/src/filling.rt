@@ -122,5 +122,11 @@ pub(crate) fn fill(out: &mut [u8], what: What, edges: &Edges)
     put_edges(out, what, edges);
     let first = first_sector(what);
     let at = (first % BLOCK_SECTORS) as usize;
-    put_patterns(out, seed_of(what), first as u64, at, sector_count(what) as usize);
+    put_patterns(
+        out,
+        seed_of(what),
+        first as u64,
+        at,
+        sector_count(what) as usize,
+    );
 }

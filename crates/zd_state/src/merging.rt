@@ -102,7 +102,13 @@ fn read_edge<D: ZonedDisk>(
     ensures cause { Fails result (D.view disk.old) (D.view disk.new) }
 {
     let (zone, place) = state.place_of(block);
-    let read = read_behind(disk, zone.unwrap(), BLOCK_SECTORS * place, BLOCK_SECTORS, into);
+    let read = read_behind(
+        disk,
+        zone.unwrap(),
+        BLOCK_SECTORS * place,
+        BLOCK_SECTORS,
+        into,
+    );
     if read.is_err() {
         into.clear();
     }

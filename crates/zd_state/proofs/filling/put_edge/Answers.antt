@@ -1,4 +1,4 @@
-use Rattle.std.proofs.Common.{◌≡◌, ℕ, List, [], replicate, sym, ap, ◌∙◌}
+use Rattle.std.proofs.Common.{ℕ, List, replicate, sym, ap, ◌∙◌}
 use Rattle.zd_disk.specs.Steps.{piece}
 use Rattle.zd_routes.specs.Edges.{edge_sector}
 use Rattle.zd_state.proofs.FilledBlocks.{full_edge, zero_pieces}

@@ -1,5 +1,5 @@
 use Rattle.std.proofs.Common.{ℕ, ◌+◌, ◌-◌, ◌*◌, ◌∙◌, arith}
-use Rattle.zd_state.proofs.FilledBlocks.{PutsSectors, puts_sectors}
+use Rattle.zd_state.proofs.FilledBlocks.{puts_sectors}
 use Rattle.zd_state.proofs.filling.put_edge_at.Goals as goal
 
 pub returns-clause-sectors : goal.returns-clause-sectors

@@ -1,8 +1,8 @@
-use Rattle.std.proofs.Common.{ℕ, ◌+◌, ◌-◌, Some, ap, ◌∙◌}
+use Rattle.std.proofs.Common.{Some, ap, ◌∙◌}
 use Rattle.zd_disk.proofs.ToldLaws.{IfSome-at}
 use Rattle.zd_routes.specs.declared.edges.Edge.{Edge}
 use Rattle.zd_routes.specs.declared.edges.Edge.TheVariants.{First, Last}
-use Rattle.zd_state.proofs.EdgeSteps.{ReadsInto, first_may_be, first_read, last_may_be, last_read}
+use Rattle.zd_state.proofs.EdgeSteps.{first_may_be, first_read, last_may_be, last_read}
 use Rattle.zd_state.proofs.merging.read_due.Goals as goal
 
 pub returns-in-First-clause-ok : goal.returns-in-First-clause-ok

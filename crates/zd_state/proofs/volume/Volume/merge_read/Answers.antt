@@ -1,4 +1,4 @@
-use Rattle.std.proofs.Common.{refl, sym, ap, ◌∙◌, subst}
+use Rattle.std.proofs.Common.{refl, sym, ap, subst}
 use Rattle.zd_disk.proofs.ToldLaws.{OnErr-at, OnOk-at}
 use Rattle.zd_volume.specs.Volumes.{IsKeptVolume, PlainVolume}
 use Rattle.zd_volume.proofs.Still.{kept_read}
