@@ -30,7 +30,9 @@ at_end bytes j = sym (drop-take (512 * j) 512 bytes)
 -- a sector of the front
 front_piece : (front rest : List ℕ) (j : ℕ) → 512 * j + 512 ≤ length front → piece (front ++ rest) j ≡ piece front j
 front_piece front rest j fits =
-    at_end (front ++ rest) j ∙ ap (drop (512 * j)) (take-append-le (512 * j + 512) front rest fits) ∙ sym (at_end front j)
+    at_end (front ++ rest) j
+    ∙ ap (drop (512 * j)) (take-append-le (512 * j + 512) front rest fits)
+    ∙ sym (at_end front j)
 
 -- a sector behind the front
 rest_piece : (front rest : List ℕ) (at j : ℕ) → length front ≡ 512 * at → piece (front ++ rest) (at + j) ≡ piece rest j
@@ -47,8 +49,8 @@ pub record PutsSectors (at n : ℕ) (bytes old new : List ℕ) : Type 0 where
   pub others : (j : ℕ) → (j < at) ⊎ (at + n ≤ j) → piece new j ≡ piece old j
 
 -- what a write to a part of a slice leaves, where that is whole sectors
-module _ (old bytes : List ℕ) (at n a k : ℕ) (starts : a ≡ 512 * at) (long : k ≡ 512 * n) (size : length bytes ≡ 512 * n)
-    (fits : 512 * (at + n) ≤ length old) where
+module _ (old bytes : List ℕ) (at n a k : ℕ) (starts : a ≡ 512 * at) (long : k ≡ 512 * n)
+    (size : length bytes ≡ 512 * n) (fits : 512 * (at + n) ≤ length old) where
   total : length (put_mid a k old bytes) ≡ length old
   total =
       let front = length-take-le a old (omega (arith, starts, fits)) in

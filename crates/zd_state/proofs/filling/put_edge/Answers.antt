@@ -15,4 +15,5 @@ returns-then-is_empty-clause-sectors c j few =
 pub returns-else-is_empty-clause-sectors : goal.returns-else-is_empty-clause-sectors
 returns-else-is_empty-clause-sectors c j few =
     ap (λ (xs : List ℕ). piece xs j) (c.copy_from_slice.ensures.after ∙ c.bytes.ensures)
-    ∙ sym (full_edge c.args.edge.now.items j (λ none. let yes = c.is_empty.ensures.1 none in let no = c.if-is_empty.false in cc))
+    ∙ sym (full_edge c.args.edge.now.items j
+    (λ none. let yes = c.is_empty.ensures.1 none in let no = c.if-is_empty.false in cc))
