@@ -4,6 +4,9 @@ pub mod StartClasses
 pub mod StartValues
 pub mod DiscardSteps
 pub mod HeldZones
+pub mod FilledBlocks
+pub mod EdgeReads
+pub mod EdgeSteps
 pub mod MapSteps
 pub mod WriteSteps
 pub mod PromotionSteps

@@ -14,9 +14,10 @@ ghost use Rattle.zd_volume.specs.Sets.{AreSets};
 ghost use Rattle.zd_volume.specs.Volumes.{sets_of};
 
 use crate::filling::is_in_part;
+use crate::reading::read_behind;
 use crate::state::VolumeState;
 use crate::volume::Volume;
-use zd_base::{BLOCK, ChunkNo, Failed, Why, ZoneNo};
+use zd_base::{ChunkNo, Failed, Why, ZoneNo};
 use zd_disk::ZonedDisk;
 use zd_model::{Bytes, Piece};
 use zd_routes::{Edge, Edges};
@@ -101,12 +102,46 @@ fn read_edge<D: ZonedDisk>(
     ensures cause { Fails result (D.view disk.old) (D.view disk.new) }
 {
     let (zone, place) = state.place_of(block);
-    into.add_zeros(BLOCK);
-    let read = disk.read(zone.unwrap(), BLOCK_SECTORS * place, into.bytes_mut());
+    let read = read_behind(
+        disk,
+        zone.unwrap(),
+        BLOCK_SECTORS * place,
+        BLOCK_SECTORS,
+        into,
+    );
     if read.is_err() {
         into.clear();
     }
     read
+}
+
+/// Reads the next edge of a write that is due, by one call of the disk. A refusal leaves the edges as they were.
+fn read_due<D: ZonedDisk>(
+    disk: &mut D,
+    state: &VolumeState,
+    piece: &Piece,
+    edges: &mut Edges,
+) -> Result<(), Failed>
+    requires told { (D.view disk.old).told ≡ Some state.now.plain.geometry }
+    requires sets { AreSets (sets_of state.now.plain) }
+    requires below { WhereTold (D.view disk.old).zones (λ i.
+        AreBelow state.now.plain.geometry i.held (tables_now state.now.plain)) }
+    requires piece { WritesBlocks (sets_of state.now.plain) piece.now.what }
+    requires edges { MayBeEdges state.now.plain (D.view disk.old).zones piece.now.what edges.old }
+    requires due { (edge : Edge) × IsDue state.now.plain piece.now.what edges.old edge }
+    ensures ok { OnOk result (ReadsEdge state.now.plain (D.view disk.old).zones piece.now.what edges.old edges.new) }
+    ensures edges { MayBeEdges state.now.plain (D.view disk.old).zones piece.now.what edges.new }
+    ensures err { OnErr result ((edges.new.first.items ≡ edges.old.first.items)
+        × (edges.new.last.items ≡ edges.old.last.items)) }
+    ensures read_calls { ReadsOnce (D.view disk.old) (D.view disk.new) }
+    ensures reads { OnlyReads (D.view disk.old) (D.view disk.new) }
+    ensures cause { Fails result (D.view disk.old) (D.view disk.new) }
+{
+    let (block, count) = piece.cover();
+    match state.next_edge(piece, edges).unwrap() {
+        Edge::First => read_edge(disk, state, block, &mut edges.first),
+        Edge::Last => read_edge(disk, state, block + u64::from(count) - 1, &mut edges.last),
+    }
 }
 
 impl<D: ZonedDisk> Volume<D> {
@@ -141,13 +176,7 @@ impl<D: ZonedDisk> Volume<D> {
         ensures same { SameSession 0 self.old self.new }
         ensures cause { IfErr result (λ why. HasFailed (D.view self.old.disk) (D.view self.new.disk)) }
     {
-        let (block, count) = piece.cover();
-        let last = block + u64::from(count) - 1;
-        let read = match self.state.next_edge(piece, edges) {
-            Some(Edge::First) => read_edge(&mut self.disk, &self.state, block, &mut edges.first),
-            _ => read_edge(&mut self.disk, &self.state, last, &mut edges.last),
-        };
-        if read.is_err() {
+        if read_due(&mut self.disk, &self.state, piece, edges).is_err() {
             self.state.stop_by_device();
             return Err(Why::Device);
         }

@@ -48,7 +48,7 @@ fn read_tail<D: ZonedDisk>(
 }
 
 /// Reads so many sectors of a zone from sector `at` on, by one call of the disk, behind these bytes.
-fn read_behind<D: ZonedDisk>(
+pub(crate) fn read_behind<D: ZonedDisk>(
     disk: &mut D,
     zone: ZoneNo,
     at: u32,
