@@ -1,6 +1,6 @@
 -- A promotion, by the steps of its code.
-use Rattle.std.proofs.Common.{◌≡◌, ℕ, zero, suc, ◌+◌, ◌-◌, ◌^◌, ◌<◌, ◌≤◌, Bool, true, false, cond, List, set, get_or}
-use Rattle.std.proofs.Common.{Option, Some, None, inl, inr, refl, sym, ap, ap₂, ◌∙◌, subst, arith}
+use Rattle.std.proofs.Common.{◌≡◌, ◌↔◌, ℕ, zero, suc, ◌+◌, ◌-◌, ◌^◌, ◌<◌, ◌≤◌, Bool, true, false, cond, List, set, get_or}
+use Rattle.std.proofs.Common.{Option, Some, None, IfNone, IfSome, IsSome, IsTrue, inl, inr, refl, sym, ap, ap₂, ◌∙◌, subst, arith}
 use Rattle.std.proofs.lemmas.Bool.{cases_eq, false≢true}
 use Rattle.std.specs.List.{find, range_with_len}
 use Rattle.std.specs.Option.{is_some}
@@ -132,3 +132,19 @@ module _ (v : PlainVolume) (fixed : IsFixed v) (chunk : ℕ) (low : chunk < v.he
       find_some (is_valid (tables_now v) zone) 0 v.geometry.zone_blocks some
       (λ x _ within. subst (λ (n : ℕ). is_valid (tables_now v) n x ≡ false) (sym same)
       (is.bare x (omega (arith, within))))
+
+-- what is found says whether it is so
+pub bare_or_not : (v : PlainVolume) (chunk : ℕ) (found : Option (ℕ × ℕ)) → IfSome found (λ z. IsBare v chunk z.0 z.1)
+    → IfNone found ((z b : ℕ) → IsBare v chunk z b → ⊥)
+    → IsTrue (is_some found) ↔ ((z : ℕ) × (b : ℕ) × IsBare v chunk z b)
+bare_or_not v chunk None some none = ((λ t. absurd (false≢true t)), (λ bare. absurd (none bare.0 bare.1 bare.2)))
+bare_or_not v chunk (Some z) some none = ((λ t. (z.0, z.1, some)), (λ bare. refl))
+
+pub found_bare : (v : PlainVolume) (chunk : ℕ) (found : Option (ℕ × ℕ))
+    → IfNone found ((z b : ℕ) → IsBare v chunk z b → ⊥) → (z b : ℕ) → IsBare v chunk z b → IsSome found
+found_bare v chunk None none z b is = absurd (none z b is)
+found_bare v chunk (Some found) none z b is = refl
+
+pub bare_found : (v : PlainVolume) (chunk : ℕ) (found : Option (ℕ × ℕ)) (zones : ℕ × ℕ) → found ≡ Some zones
+    → IfSome found (λ z. IsBare v chunk z.0 z.1) → IsBare v chunk zones.0 zones.1
+bare_found v chunk found zones is some = subst (λ (o : Option (ℕ × ℕ)). IfSome o (λ z. IsBare v chunk z.0 z.1)) is some

@@ -89,8 +89,7 @@ impl<D: ZonedDisk> Volume<D> {
         ensures disk { self.new.disk ≡ self.old.disk }
         ensures same { SameSession 0 self.old self.new }
     {
-        if let Some((zone, buffer)) = self.state.bare_zones(chunk) {
-            self.state.raise_buffer(chunk, zone, buffer);
-        }
+        let (zone, buffer) = self.state.bare_zones(chunk).unwrap();
+        self.state.raise_buffer(chunk, zone, buffer);
     }
 }

@@ -1,14 +1,15 @@
 //! Writes: one call of the disk, and what it makes of the tables.
 
-ghost use Rattle.std.specs.Prelude.{◌≡◌, ◌⊎◌, ℕ, ◌+◌, ◌-◌, ◌*◌, ◌^◌, ◌<◌, ◌≤◌, ◌++◌, ◌∷◌, [], length, set, true, Some};
+ghost use Rattle.std.specs.Prelude.{◌≡◌, ◌⊎◌, ℕ, ◌+◌, ◌-◌, ◌*◌, ◌^◌, ◌<◌, ◌≤◌, ◌++◌, ◌∷◌, [], length, set, true, IsSomeAnd, Some};
 ghost use Rattle.zd_alloc.specs.Candidates.{Follows};
 ghost use Rattle.zd_alloc.specs.Order.{PutsLast};
 ghost use Rattle.zd_base.specs.Geometry.{zone_count};
 ghost use Rattle.zd_base.specs.declared.numbers.Why.TheVariants as whys;
-ghost use Rattle.zd_disk.specs.Told.{WhereTold, next_count};
+ghost use Rattle.zd_disk.specs.Told.{IsInside, WhereTold, next_count};
 ghost use Rattle.zd_map.specs.Numbers.{NamesZones};
 ghost use Rattle.zd_model.specs.Plain.{Answer as answers};
-ghost use Rattle.zd_model.specs.Requests.{block_count};
+ghost use Rattle.zd_model.specs.Requests.{block_count, first_sector, operation_of, sector_count};
+ghost use Rattle.zd_model.specs.Requests.Operation.{Writing};
 ghost use Rattle.zd_model.specs.Tables.{entry_of};
 ghost use Rattle.zd_routes.specs.Edges.{AreEdges};
 ghost use Rattle.zd_routes.specs.Routes.{GivesEntry, HasPlace, IsGoal, IsRoute, WritesBlocks, WritesRange, entry_touched, entry_with, other_zone, pointers_with, uses_with};
@@ -19,7 +20,7 @@ ghost use Rattle.zd_tables.specs.Changes.{SetsEntry, entry_block};
 ghost use Rattle.zd_volume.specs.Discards.{NoJobOn, chunk_touched, range_end, range_first};
 ghost use Rattle.zd_volume.specs.Flights.{answered, tables_now};
 ghost use Rattle.zd_volume.specs.Marks.{MarksChanged};
-ghost use Rattle.zd_volume.specs.Sets.{used};
+ghost use Rattle.zd_volume.specs.Sets.{AreSets, used};
 ghost use Rattle.zd_volume.specs.Volumes.{IsFixed, sets_of};
 ghost use Rattle.zd_volume.specs.declared.phase.Phase.TheVariants.{Idle};
 
@@ -28,7 +29,7 @@ use crate::state::VolumeState;
 use crate::volume::Volume;
 use zd_base::{BLOCK, ChunkNo, Failed, Kind, Why, ZoneNo};
 use zd_disk::ZonedDisk;
-use zd_model::{Entry, MapEntry, Piece, Reply};
+use zd_model::{MapEntry, Piece, Reply, What};
 use zd_routes::Edges;
 use zd_volume::{Place, Wrote};
 
@@ -49,6 +50,31 @@ fn other_zone(entry: &MapEntry, place: Place) -> Option<ZoneNo>
     }
 }
 
+/// Fills these bytes with the blocks of a write, and writes them into a zone from sector `start` on, by one
+/// call of the disk.
+fn put_filled<D: ZonedDisk>(
+    disk: &mut D,
+    out: &mut [u8],
+    what: What,
+    edges: &Edges,
+    zone: ZoneNo,
+    start: u32,
+) -> Result<(), Failed>
+    requires write { operation_of what ≡ Writing }
+    requires some { 1 ≤ sector_count what }
+    requires few { first_sector what + sector_count what < 2 ^ 64 }
+    requires size { length out.old ≡ 4096 * block_count what }
+    requires first { (edges.now.first.items ≡ []) ⊎ (length edges.now.first.items ≡ 4096) }
+    requires last { (edges.now.last.items ≡ []) ⊎ (length edges.now.last.items ≡ 4096) }
+    requires inside { IsSomeAnd (D.view disk.old).told (IsInside zone start (8 * block_count what)) }
+    requires pointer { WhereTold (D.view disk.old).zones (λ i. i.geometry.conv ≤ zone → start ≡ i.held zone) }
+    ensures put { PutsBlocks zone start what edges.now result (D.view disk.old) (D.view disk.new) }
+    ensures size { length out.new ≡ length out.old }
+{
+    fill(out, what, edges);
+    disk.write(zone, start, out)
+}
+
 /// Writes the blocks of a piece into a zone from block `first` on, by one call of the disk, from the write
 /// buffer.
 fn put_blocks<D: ZonedDisk>(
@@ -60,6 +86,7 @@ fn put_blocks<D: ZonedDisk>(
     first: u32,
 ) -> Result<(), Failed>
     requires told { (D.view disk.old).told ≡ Some state.old.plain.geometry }
+    requires sets { AreSets (sets_of state.old.plain) }
     requires piece { WritesBlocks (sets_of state.old.plain) piece.now.what }
     requires edges { AreEdges state.old.plain (D.view disk.old).zones piece.now.what edges.now }
     requires room { block_count piece.now.what ≤ state.old.room }
@@ -73,8 +100,14 @@ fn put_blocks<D: ZonedDisk>(
     let (_, count) = piece.cover();
     let _zone_blocks = state.geometry().zone_blocks();
     let len = BLOCK * count as usize;
-    fill(&mut state.patterns[..len], piece.what, edges);
-    disk.write(zone, BLOCK_SECTORS * first, &state.patterns[..len])
+    put_filled(
+        disk,
+        &mut state.patterns[..len],
+        piece.what,
+        edges,
+        zone,
+        BLOCK_SECTORS * first,
+    )
 }
 
 impl VolumeState {
