@@ -43,6 +43,7 @@ pub fn step<D: ZonedDisk>(v: &mut Volume<D>, piece: &Piece, edges: &Edges) -> Tr
     let Some(place) = place(v, piece) else {
         return Tried::NoZone;
     };
+    v.sound();
     let (chunk, _) = start_of(v, piece);
     give_up_on(v, chunk);
     match v.write_and_map(piece, edges, place) {
