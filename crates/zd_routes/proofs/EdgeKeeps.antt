@@ -1,7 +1,6 @@
--- An edge whose read failed stops a volume, and keeps it. One that was read changes nothing of its values (`kept_read`).
+-- An edge whose read failed stops a volume, and keeps it. One that was read changes none of its values: `kept_read`.
 use Rattle.std.proofs.Common.{◌≡◌, Some, None, refl}
 use Rattle.zd_base.specs.declared.numbers.Why.{Why}
-use Rattle.zd_model.specs.Safe.{base_at}
 use Rattle.zd_disk.specs.View.{HasFailed, OnlyReads, View}
 use Rattle.zd_volume.specs.Volumes.{IsFixed, IsKeptVolume, PlainVolume}
 use Rattle.zd_volume.proofs.FaultEntries.{faults_failed}

@@ -17,15 +17,6 @@ use Rattle.zd_volume.specs.declared.work.Place.TheVariants.{Buffer, Main, NewBuf
 use Rattle.zd_volume.proofs.DropTables.{in_or_out}
 use Rattle.zd_volume.proofs.MarkLaws.{marks_none, marks_then}
 
--- the entry is set and its block is marked where a zone is taken; else nothing changes
-abbrev pub GivesEntry : Place → ℕ → MapEntry → List ℕ → List ℕ → List Bool → List Bool → Type 0
-GivesEntry Main chunk entry old new dirty marked = (new ≡ old) × (marked ≡ dirty)
-GivesEntry NewMain chunk entry old new dirty marked =
-    SetsEntry chunk entry old new × (marked ≡ set dirty (entry_block chunk) true)
-GivesEntry Buffer chunk entry old new dirty marked = (new ≡ old) × (marked ≡ dirty)
-GivesEntry NewBuffer chunk entry old new dirty marked =
-    SetsEntry chunk entry old new × (marked ≡ set dirty (entry_block chunk) true)
-
 -- what that makes of a set: the entry is so, and no other block has changed
 pub record HasEntry (s : Sets) (chunk : ℕ) (entry : MapEntry) (bytes : List ℕ) (dirty marked : List Bool) : Type 0 where
   pub tables : ChangesEntry chunk entry (new_tables s) (tables_in s.geometry s.head.layout bytes)

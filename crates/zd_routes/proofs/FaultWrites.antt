@@ -11,8 +11,8 @@ use Rattle.zd_model.specs.Plain.{Answer}
 use Rattle.zd_model.specs.Plain.Answer.{Fault}
 use Rattle.zd_model.specs.Requests.{Operation, operation_of}
 use Rattle.zd_model.specs.Requests.Operation.{Writing}
-use Rattle.zd_volume.specs.FaultCounts.{TellsFaults, has_fault, is_data, is_faulted, is_flushing, is_reading, read_faults}
-use Rattle.zd_volume.specs.FaultCounts.{told_faults}
+use Rattle.zd_volume.specs.FaultCounts.{TellsFaults, has_fault, is_data, is_faulted, is_flushing, is_reading}
+use Rattle.zd_volume.specs.FaultCounts.{read_faults, told_faults}
 use Rattle.zd_volume.proofs.FaultEntries.{read_few}
 
 abbrev one_if : Bool → ℕ
@@ -22,7 +22,8 @@ or_none : (b : Bool) → (b || false) ≡ b
 or_none true = refl
 or_none false = refl
 
-module _ (h : List HistoryEntry) (e : HistoryEntry) (fault : e.reply ≡ Fault) (writes : operation_of e.what ≡ Writing) where
+module _ (h : List HistoryEntry) (e : HistoryEntry) (fault : e.reply ≡ Fault)
+    (writes : operation_of e.what ≡ Writing) where
   told_by : (such : Operation → Bool) → is_faulted such e ≡ such Writing
   told_by such = ap₂ (λ (o : Operation) (a : Answer). has_fault such o a) writes fault
 

@@ -1,13 +1,11 @@
 -- A WRITE KEEPS A VOLUME: in Idle, beside a job on another chunk, done or failed.
-use Rattle.std.proofs.Common.{◌≡◌, ℕ, ◌+◌, ◌-◌, ◌*◌, ◌^◌, ◌<◌, ◌≤◌, Bool, true, false, List, [], ◌∷◌, ◌++◌, Option, Some}
+use Rattle.std.proofs.Common.{◌≡◌, ℕ, ◌+◌, ◌-◌, ◌*◌, ◌^◌, ◌<◌, true, false, List, [], ◌∷◌, ◌++◌, Option, Some}
 use Rattle.std.proofs.Common.{None, inl, inr, refl, sym, ap, ap₂, ◌∙◌, subst, arith}
 use Rattle.std.specs.List.{AllByRecursion}
 use Rattle.zd_base.specs.declared.numbers.Why.{Why}
 use Rattle.zd_alloc.specs.declared.uses.ZoneUse.{ZoneUse}
 use Rattle.zd_model.specs.History.{HistoryEntry}
-use Rattle.zd_model.specs.Image.{Image}
 use Rattle.zd_model.specs.Plain.Answer.{Done, Fault}
-use Rattle.zd_model.specs.Requests.{block_count}
 use Rattle.zd_model.specs.Safe.{base_at}
 use Rattle.zd_model.specs.declared.requests.Piece.{Piece}
 use Rattle.zd_disk.specs.Steps.{WriteLeaves, WriteStep, Wrote, count_of}
@@ -17,7 +15,7 @@ use Rattle.zd_volume.specs.Discards.{NoJobOn, chunk_touched, range_end, range_fi
 use Rattle.zd_volume.specs.Flights.{answered, tables_now}
 use Rattle.zd_volume.specs.LeftImages.{ReadsAs}
 use Rattle.zd_volume.specs.Sets.{sector_by}
-use Rattle.zd_volume.specs.Volumes.{IsFixed, IsKeptVolume, IsNow, IsWhole, PlainVolume, sets_of}
+use Rattle.zd_volume.specs.Volumes.{IsFixed, IsKeptVolume, IsWhole, PlainVolume, sets_of}
 use Rattle.zd_volume.specs.declared.phase.Phase.{Phase}
 use Rattle.zd_volume.specs.declared.phase.Phase.TheVariants.{Idle}
 use Rattle.zd_volume.specs.declared.work.Place.{Place}
@@ -26,7 +24,7 @@ use Rattle.zd_volume.proofs.DataWrites.{after_write}
 use Rattle.zd_volume.proofs.FaultEntries.{TellsNone, calm_more, faults_none, none_calm}
 use Rattle.zd_volume.proofs.InPhases.{both_at}
 use Rattle.zd_routes.specs.Edges.{IsMerged}
-use Rattle.zd_routes.specs.Routes.{IsRoute, WritesBlocks, pointers_with, uses_with}
+use Rattle.zd_routes.specs.Routes.{IsRoute, WritesBlocks, pointers_with}
 use Rattle.zd_routes.specs.Writes.{WritesPiece, with_failed_write}
 use Rattle.zd_routes.proofs.FaultWrites.{faults_write}
 use Rattle.zd_routes.proofs.FixedWrites.{fixed_written}
@@ -100,7 +98,8 @@ module _ (from to : PlainVolume) (p : Piece) (place : Place) (zone : ℕ) (bytes
         pointers = pointers_written from.geometry zone first end bytes r j did whole pointer from.pointers
             was.fixed.pointers now.pointers;
         whole = subst (λ (uses : List ZoneUse). IsWhole from.geometry uses j) (sym wrote.zones)
-            (whole_written from.geometry zone first end bytes r j did whole pointer place from.division.zones now.whole);
+            (whole_written from.geometry zone first end bytes r j did whole pointer place from.division.zones
+            now.whole);
         copies = copies_written (sets_of from) was.fixed.sets base size from.history e is refl place zone goal to.fresh
             wrote.range (8 * first) bytes r j did from.job from.pointers from.buffer off was.fixed.job
             (goal_no_target from was.fixed p.what place zone wrote.route off) now.copies;
@@ -108,15 +107,15 @@ module _ (from to : PlainVolume) (p : Piece) (place : Place) (zone : ℕ) (bytes
 
   fixed_after : IsFixed after
   fixed_after =
-      subst (λ (w : PlainVolume). IsFixed w) (sym is_after) (fixed_written from to p place zone was.fixed wrote idle off)
+      subst (λ (w : PlainVolume). IsFixed w) (sym is_after)
+      (fixed_written from to p place zone was.fixed wrote idle off)
 
-  pub kept_written : from.since < 2 ^ 64 - 1
-      → Calls (λ r. WriteStep r zone (8 * range_first from.geometry.zone_blocks p.what) bytes)
+  pub kept_written : Calls (λ r. WriteStep r zone (8 * range_first from.geometry.zone_blocks p.what) bytes)
       (λ r j. WriteLeaves r j zone (8 * range_first from.geometry.zone_blocks p.what) bytes) u x
       → IsKeptVolume to opening x
-  kept_written few call =
+  kept_written call =
       subst (λ (w : PlainVolume). IsKeptVolume w opening x) is_after
-      (kept_by_write from p place zone bytes opening u x runs was idle few is wrote.route merged call Done (inl refl)
+      (kept_by_write from p place zone bytes opening u x runs was idle is wrote.route merged call Done (inl refl)
       to.fresh to.dirty to.division (pointers_with from.geometry from.pointers zone end) to.standings true fixed_after
       now_written (Wrote zone (8 * first) bytes) turns
       (faults_none from.history (e ∷ []) tells_none None opening.faults x.faults
@@ -155,16 +154,16 @@ module _ (from : PlainVolume) (p : Piece) (place : Place) (zone : ℕ) (bytes : 
   }
 
   pub kept_failed_write : from.stopped ≡ None → IsKeptVolume from opening u → from.phase ≡ Idle
-      → from.since < 2 ^ 64 - 1 → WritesBlocks (sets_of from) p.what
+      → WritesBlocks (sets_of from) p.what
       → WhereTold u.zones (λ r. IsMerged p.what (sector_by (sets_of from) (tables_now from) r) bytes)
       → IsRoute from p.what place zone → HasFailed u x
       → Turns (λ i. WriteStep i zone (8 * range_first from.geometry.zone_blocks p.what) bytes i) u x
       → Calls (λ r. WriteStep r zone (8 * range_first from.geometry.zone_blocks p.what) bytes)
       (λ r j. WriteLeaves r j zone (8 * range_first from.geometry.zone_blocks p.what) bytes) u x
       → IsKeptVolume (with_failed_write from p) opening x
-  kept_failed_write runs was idle few is merged route failed turns call =
+  kept_failed_write runs was idle is merged route failed turns call =
       subst (λ (w : PlainVolume). IsKeptVolume w opening x) (is_stopped idle)
-      (kept_by_write from p place zone bytes opening u x runs was idle few is route merged call Fault (inr refl)
+      (kept_by_write from p place zone bytes opening u x runs was idle is route merged call Fault (inr refl)
       from.fresh from.dirty from.division from.pointers from.standings false (fixed_stopped was.fixed)
       (λ no. absurd (let g : ⊥ = cc in g))
       (λ i. WriteStep i zone (8 * range_first from.geometry.zone_blocks p.what) bytes i) turns

@@ -19,7 +19,6 @@ pub mod WriteReads
 pub mod WritePointers
 pub mod WriteGoals
 pub mod FaultWrites
-pub mod UntoldWrites
 pub mod StoppedWrites
 pub mod KeptWrites
 pub mod EdgeKeeps

@@ -1,11 +1,10 @@
 -- The blocks of a write are right where its edges are: all sectors of them that it doesn't touch are as they were.
-use Rattle.std.proofs.Common.{◌≡◌, ◌≢◌, ℕ, ◌+◌, ◌-◌, ◌*◌, ◌/◌, ◌%◌, ◌<◌, ◌≤◌, Bool, true, false, not, ◌&&◌, List, []}
+use Rattle.std.proofs.Common.{◌≡◌, ℕ, ◌+◌, ◌-◌, ◌*◌, ◌/◌, ◌%◌, ◌<◌, ◌≤◌, Bool, true, not, ◌&&◌, List, []}
 use Rattle.std.proofs.Common.{◌∷◌, length, Option, Some, None, inl, inr, refl, sym, ap, ◌∙◌, subst, arith}
 use Rattle.std.specs.Prelude.{nat_le}
 use Rattle.std.proofs.Math.Bool.{and-false}
 use Rattle.std.proofs.lemmas.Bool.{cases_lt, lt-leb}
-use Rattle.zd_model.specs.Bytes.{zero_sector}
-use Rattle.zd_model.specs.Image.{Image, run_of}
+use Rattle.zd_model.specs.Image.{Image}
 use Rattle.zd_model.specs.Places.{spot, zone_at}
 use Rattle.zd_model.specs.Requests.{block_count, first_block, first_sector, sector_count}
 use Rattle.zd_model.specs.Stops.{Covers}
@@ -24,7 +23,7 @@ use Rattle.zd_volume.specs.Sets.{AreSets, Sets, new_tables, sector_by}
 use Rattle.zd_volume.specs.Volumes.{IsKeptVolume, PlainVolume, sets_of}
 use Rattle.zd_volume.proofs.Choices.{some_blocks}
 use Rattle.zd_volume.proofs.PlaceLaws.{cases_place, held_place}
-use Rattle.zd_routes.specs.Edges.{AreEdges, FillsBlocks, HasEdge, HoldsEdge, IsMerged, NeedsEdge, block_served, bytes_at}
+use Rattle.zd_routes.specs.Edges.{AreEdges, FillsBlocks, HasEdge, HoldsEdge, IsMerged, NeedsEdge}
 use Rattle.zd_routes.specs.Edges.{edge_block, edge_sector, is_in_part}
 use Rattle.zd_routes.specs.declared.edges.Edge.{Edge}
 use Rattle.zd_routes.specs.declared.edges.Edge.TheVariants.{First, Last}
@@ -112,9 +111,11 @@ module _ (v : PlainVolume) (told : Option Image) (what : What) (e : Edges) (byte
       λ covers. off (subst (Covers what) (sym place) covers) in
       ap (piece bytes) at
       ∙ fills.behind two k few uncovered
-      ∙ edge_is v told what Last e.last.items
-      (two, in_part_by what (first_block what + block_count what - 1)
-      (8 * (first_block what + block_count what - 1) + k) (omega (arith, few)) uncovered)
+      ∙ edge_is v told what Last e.last.items (
+        two,
+        in_part_by what (first_block what + block_count what - 1)
+            (8 * (first_block what + block_count what - 1) + k) (omega (arith, few)) uncovered,
+      )
       (edges.needed Last) (edges.others Last) r there sized k few
       ∙ ap was (sym place)
 

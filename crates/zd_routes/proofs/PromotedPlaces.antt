@@ -1,5 +1,5 @@
 -- After a promotion each sector stands where it stood, and all that is said of what the disk reads as holds on.
-use Rattle.std.proofs.Common.{◌≡◌, ◌≢◌, ℕ, ◌+◌, ◌*◌, ◌/◌, ◌%◌, ◌<◌, Bool, true, false, cond, List, length, Option, Some}
+use Rattle.std.proofs.Common.{◌≡◌, ◌≢◌, ℕ, ◌/◌, ◌%◌, ◌<◌, Bool, true, false, cond, List, length, Option, Some}
 use Rattle.std.proofs.Common.{None, inl, inr, refl, sym, ap, ◌∙◌, subst, arith}
 use Rattle.std.proofs.lemmas.Bool.{cases_eq}
 use Rattle.std.proofs.lemmas.List.{get_or-set_other, get_or-set_same}
@@ -19,7 +19,7 @@ use Rattle.zd_tables.specs.Tables.{tables_in}
 use Rattle.zd_volume.specs.Discards.{NoJobOn}
 use Rattle.zd_volume.specs.Jobs.{HasCopies, source_of}
 use Rattle.zd_volume.specs.LeftImages.{ReadsAs}
-use Rattle.zd_volume.specs.Sets.{Sets, device_sectors, new_tables}
+use Rattle.zd_volume.specs.Sets.{Sets, new_tables}
 use Rattle.zd_volume.specs.Volumes.{IsWhole}
 use Rattle.zd_volume.specs.declared.phase.Phase.TheVariants.{Idle}
 use Rattle.zd_volume.specs.declared.work.Work.{Work}

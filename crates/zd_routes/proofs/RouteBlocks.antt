@@ -14,8 +14,8 @@ use Rattle.zd_volume.specs.Volumes.{IsFixed, PlainVolume, sets_of}
 use Rattle.zd_volume.specs.declared.work.Place.{Place}
 use Rattle.zd_volume.specs.declared.work.Place.TheVariants.{Buffer, Main, NewBuffer, NewMain}
 use Rattle.zd_routes.specs.Promotions.{IsBare}
-use Rattle.zd_routes.specs.Routes.{GoesTo, IsRoute, WritesBlocks, WritesRange, entry_touched, entry_with, other_zone}
-use Rattle.zd_routes.proofs.EntryBlocks.{GivesEntry, HasEntry, entry_set, entry_stays}
+use Rattle.zd_routes.specs.Routes.{GivesEntry, GoesTo, IsRoute, WritesBlocks, WritesRange, entry_touched, entry_with, other_zone}
+use Rattle.zd_routes.proofs.EntryBlocks.{HasEntry, entry_set, entry_stays}
 use Rattle.zd_routes.proofs.GoalLaws.{goal_data, goal_other}
 use Rattle.zd_routes.proofs.RangeBlocks.{range_flags, range_written}
 use Rattle.zd_routes.proofs.RouteTables.{other_named}

@@ -14,10 +14,9 @@ use Rattle.zd_volume.specs.Sets.{AreSets}
 use Rattle.zd_volume.specs.Volumes.{IsFixed, PlainVolume, sets_of}
 use Rattle.zd_volume.specs.declared.work.Place.{Place}
 use Rattle.zd_routes.specs.Promotions.{IsBare, PromotesChunk}
-use Rattle.zd_routes.specs.Routes.{IsRoute, WritesBlocks, entry_touched, entry_with, other_zone, pointers_with}
+use Rattle.zd_routes.specs.Routes.{GivesEntry, IsRoute, WritesBlocks, entry_touched, entry_with, other_zone, pointers_with}
 use Rattle.zd_routes.specs.Routes.{uses_with}
 use Rattle.zd_routes.specs.Writes.{WritesPiece, entered}
-use Rattle.zd_routes.proofs.EntryBlocks.{GivesEntry}
 use Rattle.zd_routes.proofs.RouteBlocks.{entry_front, promoted_entry, written_marks, written_range}
 
 pub writes_by : (v : PlainVolume) (fixed : IsFixed v) (p : Piece) (place : Place) (zone : ℕ)

@@ -1,6 +1,6 @@
--- A write's call keeps a volume, done or failed: for a stop each sector that it may put is what the write puts there, or
--- what was there last.
-use Rattle.std.proofs.Common.{◌≡◌, ◌⊎◌, ℕ, ◌+◌, ◌-◌, ◌*◌, ◌/◌, ◌^◌, ◌<◌, ◌≤◌, Bool, true, false, cond, List, [], ◌∷◌, ◌++◌}
+-- A write's call keeps a volume, done or failed: for a stop each sector that it may put is what the write puts there,
+-- or what was there last.
+use Rattle.std.proofs.Common.{◌≡◌, ◌⊎◌, ℕ, ◌+◌, ◌-◌, ◌*◌, ◌/◌, ◌^◌, ◌<◌, ◌≤◌, Bool, false, cond, List, [], ◌∷◌, ◌++◌}
 use Rattle.std.proofs.Common.{length, Option, Some, None, inl, inr, refl, sym, ap, ap₂, ◌∙◌, arith}
 use Rattle.std.specs.List.{concat}
 use Rattle.std.specs.Prelude.{slice_range}
@@ -43,7 +43,6 @@ use Rattle.zd_volume.proofs.PlaceLaws.{named_place}
 use Rattle.zd_routes.specs.Edges.{IsMerged}
 use Rattle.zd_routes.specs.Routes.{IsRoute, WritesBlocks}
 use Rattle.zd_routes.proofs.GoalLaws.{goal_alone_old, goal_data}
-use Rattle.zd_routes.proofs.UntoldWrites.{kept_untold}
 use Rattle.zd_routes.proofs.WriteCovers.{write_in_range}
 use Rattle.zd_routes.proofs.WriteGoals.{starts_at_pointer}
 use Rattle.zd_routes.proofs.WriteLasts.{adds_or_last}
@@ -74,7 +73,7 @@ legal_written base now h e was by calm writes fits (inl done) later =
         (ap (λ (n : ℕ). ends_past n e.what) (length-last_array base h) ∙ fits) writes
 
 module _ (v : PlainVolume) (p : Piece) (place : Place) (zone : ℕ) (bytes : List ℕ) (opening u x : View)
-    (runs : v.stopped ≡ None) (was : IsKeptVolume v opening u) (idle : v.phase ≡ Idle) (few : v.since < 2 ^ 64 - 1)
+    (runs : v.stopped ≡ None) (was : IsKeptVolume v opening u) (idle : v.phase ≡ Idle)
     (is : WritesBlocks (sets_of v) p.what) (route : IsRoute v p.what place zone)
     (merged : WhereTold u.zones (λ r. IsMerged p.what (sector_by (sets_of v) (tables_now v) r) bytes))
     (call : Calls (λ r. WriteStep r zone (8 * range_first v.geometry.zone_blocks p.what) bytes)
@@ -89,12 +88,14 @@ module _ (v : PlainVolume) (p : Piece) (place : Place) (zone : ℕ) (bytes : Lis
   abbrev e : HistoryEntry
   e = answered p reply (next_count v.since)
 
-  legal_after : (r : Image) → u.zones ≡ Some r → IsLegal (base_at opening.zones) v.history
+  legal_after : x.calls < 2 ^ 64 - 1 → (r : Image) → u.zones ≡ Some r → IsLegal (base_at opening.zones) v.history
       → IsLegal (base_at opening.zones) (v.history ++ answered p reply (next_count v.since) ∷ [])
-  legal_after r there legal =
+  legal_after small r there legal =
+      let more = call.calls in
+      let counted = was.counted.count (omega (arith, small, more)) in
       legal_written base v.since v.history e legal was.counted.by_now (was.calm runs) is.writes
       (ap (λ (n : ℕ). ends_past n p.what) (was.based r there) ∙ write_in_range (sets_of v) p.what is) said
-      (omega (arith, few))
+      (omega (arith, counted, more, small))
 
   -- what a stop may find where a committed sector stands
   own : (r : Image) → u.zones ≡ Some r → (k n j : ℕ) → next_count v.since ≤ k + 1 → n < device_sectors (sets_of v)
@@ -119,35 +120,12 @@ module _ (v : PlainVolume) (p : Piece) (place : Place) (zone : ℕ) (bytes : Lis
       (faulted : TellsFaults (v.history ++ answered p reply (next_count v.since) ∷ []) (stopped_by done) opening.faults
       x.faults)
       (calm : stopped_by done ≡ None → AreCalm (v.history ++ answered p reply (next_count v.since) ∷ [])) where
-    by_told : (o : Option Image) → u.zones ≡ o
-        → IsKeptVolume (after_write v fresh dirty division pointers standings
-        (answered p reply (next_count v.since)) (stopped_by done)) opening x
-    by_told None none =
-        kept_untold v (after_write v fresh dirty division pointers standings e (stopped_by done)) opening u x
-        (λ r. WriteStep r zone start bytes) runs was none
-        (record {
-          geometry = refl;
-          layout = refl;
-          opening = refl;
-          since = refl;
-          stays = call.stays;
-          calls = call.calls;
-          grows = grows_by_write zone start bytes call;
-          from = told_before u x R turns;
-          shows = told_after u x R turns;
-        })
-        fixed
-        (AreBy-push v.since (next_count v.since) v.history e (next_more v.since) was.counted.by_now (omega arith)) refl
-        faulted calm
-        (λ k n y l m. past base v.history e k n y (let more = next_more v.since in omega (arith, l, more)) m)
-    by_told (Some r) there =
-        kept_write v opening u x runs was fresh dirty division pointers standings e done fixed now R turns zone start
-        bytes idle (goal_data v was.fixed p.what place zone route).0 refl (write_plain p.what reply is.writes) faulted
-        (λ ok. calm (ap stopped_by ok)) (own r there)
-        (λ i _ reads. starts_at_pointer v was.fixed p.what place zone route base i reads)
-        legal_after call
-
     -- THE VOLUME IS KEPT
     pub kept_by_write : IsKeptVolume (after_write v fresh dirty division pointers standings
         (answered p reply (next_count v.since)) (stopped_by done)) opening x
-    kept_by_write = by_told u.zones refl
+    kept_by_write =
+        kept_write v opening u x runs was fresh dirty division pointers standings e done fixed now R turns zone start
+        bytes idle (goal_data v was.fixed p.what place zone route).0 refl (write_plain p.what reply is.writes) faulted
+        (λ ok. calm (ap stopped_by ok)) own
+        (λ i _ reads. starts_at_pointer v was.fixed p.what place zone route base i reads)
+        legal_after call

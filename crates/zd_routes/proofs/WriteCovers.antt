@@ -4,7 +4,7 @@ use Rattle.std.proofs.Math.Nat.{mul-le-mul_right}
 use Rattle.std.proofs.lemmas.Nat.{div-add-mod', div-mul-add, mod-mul-add}
 use Rattle.zd_model.specs.Places.{spot}
 use Rattle.zd_model.specs.Plain.{ends_past}
-use Rattle.zd_model.specs.Requests.{block_count, first_block, first_sector, sector_count}
+use Rattle.zd_model.specs.Requests.{block_count, first_block}
 use Rattle.zd_model.specs.Stops.{Covers}
 use Rattle.zd_model.specs.declared.requests.What.{What}
 use Rattle.zd_model.proofs.ArrayLaws.{ends_inside}

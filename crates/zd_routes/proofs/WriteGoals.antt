@@ -13,7 +13,7 @@ use Rattle.zd_volume.specs.declared.work.Place.{Place}
 use Rattle.zd_volume.specs.declared.work.Place.TheVariants.{Buffer, Main, NewBuffer, NewMain}
 use Rattle.zd_routes.specs.Routes.{GoesTo, IsGoal, IsRoute, entry_touched}
 use Rattle.zd_routes.proofs.GoalLaws.{goal_alone, goal_data, goal_sequential, least_spare, no_buffer}
-use Rattle.zd_routes.proofs.WritePlaces.{FitsPlace}
+use Rattle.zd_routes.proofs.WritePlaces.{SuitsPlace}
 use Rattle.zd_routes.proofs.WriteReads.{IsGoalZone}
 
 module _ (v : PlainVolume) (fixed : IsFixed v) (what : What) (place : Place) (zone : ℕ)
@@ -26,12 +26,12 @@ module _ (v : PlainVolume) (fixed : IsFixed v) (what : What) (place : Place) (zo
   none_buffered None is none = is
   none_buffered (Some b) is none = absurd (no_buffer (sets_of v) fixed.sets c b none is)
 
-  fits : FitsPlace (entry_touched v what) place zone
+  fits : SuitsPlace (entry_touched v what) place zone
   fits = by place route.goes route.goal
     where
       by : (at : Place)
           → GoesTo v.geometry v.pointers (entry_touched v what) (range_first v.geometry.zone_blocks what) at
-          → IsGoal (entry_touched v what) v.division at zone → FitsPlace (entry_touched v what) at zone
+          → IsGoal (entry_touched v what) v.division at zone → SuitsPlace (entry_touched v what) at zone
       by Main goes goal = goal
       by NewMain goes goal = (goes, none_buffered (entry_touched v what).buffer refl goes)
       by Buffer goes goal = goal

@@ -1,12 +1,12 @@
 -- What is there last after a write, done or failed; and what each of its sectors may be for a stop.
 use Rattle.std.proofs.Common.{◌≡◌, ◌⊎◌, ℕ, ◌+◌, ◌-◌, ◌*◌, ◌/◌, ◌%◌, ◌<◌, ◌≤◌, false, List, [], ◌∷◌, ◌++◌, length}
-use Rattle.std.proofs.Common.{slice_index_or, Option, Some, IsSomeAnd, inl, inr, sym, ap, ◌∙◌, subst, arith}
+use Rattle.std.proofs.Common.{slice_index_or, Some, IsSomeAnd, inl, inr, sym, ap, ◌∙◌, subst, arith}
 use Rattle.zd_model.specs.Bytes.{zero_sector}
 use Rattle.zd_model.specs.History.{HistoryEntry, entry_after, last_array}
 use Rattle.zd_model.specs.Places.{spot}
 use Rattle.zd_model.specs.Plain.{array_after, ends_past, put_by}
 use Rattle.zd_model.specs.Plain.Answer.{Done, Fault}
-use Rattle.zd_model.specs.Requests.{Operation, block_count, first_block, operation_of}
+use Rattle.zd_model.specs.Requests.{Operation, block_count, first_block}
 use Rattle.zd_model.specs.Safe.{last_at}
 use Rattle.zd_model.specs.Stops.{Covers, MayCount}
 use Rattle.zd_model.specs.declared.requests.What.{What}
@@ -73,7 +73,8 @@ module _ (s : Sets) (base : List (List ℕ)) (size : length base ≡ device_sect
 
     module _ (served : (n : ℕ) → n < device_sectors s → was n ≡ last_at base h n) where
       -- so what is there last are these bytes, in all blocks that it touches
-      pub last_merged : e.reply ≡ Done → (n : ℕ) → range_first s.geometry.zone_blocks e.what ≤ n / 8 % s.geometry.zone_blocks
+      pub last_merged : e.reply ≡ Done → (n : ℕ)
+          → range_first s.geometry.zone_blocks e.what ≤ n / 8 % s.geometry.zone_blocks
           → n / 8 % s.geometry.zone_blocks < range_end s.geometry.zone_blocks e.what
           → n / 8 / s.geometry.zone_blocks ≡ chunk_touched s.geometry.zone_blocks e.what
           → piece bytes (n - 8 * first_block e.what) ≡ last_at base (h ++ e ∷ []) n

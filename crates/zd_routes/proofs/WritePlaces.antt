@@ -41,15 +41,15 @@ module _ (u : Tables) (x : ℕ) where
       ∙ where_true e.buffer b is valid
 
 -- which zones a chunk has where a write goes to this place and zone
-abbrev pub FitsPlace : MapEntry → Place → ℕ → Type 0
-FitsPlace e Main z = e.zone ≡ Some z
-FitsPlace e NewMain z = (e.zone ≡ None) × (e.buffer ≡ None)
-FitsPlace e Buffer z = e.buffer ≡ Some z
-FitsPlace e NewBuffer z = (e.buffer ≡ None) × (e.zone ≢ Some z)
+abbrev pub SuitsPlace : MapEntry → Place → ℕ → Type 0
+SuitsPlace e Main z = e.zone ≡ Some z
+SuitsPlace e NewMain z = (e.zone ≡ None) × (e.buffer ≡ None)
+SuitsPlace e Buffer z = e.buffer ≡ Some z
+SuitsPlace e NewBuffer z = (e.buffer ≡ None) × (e.zone ≢ Some z)
 
 -- THE BLOCKS OF THE CHUNK
 module _ (e : MapEntry) (zone first end : ℕ) (t u : Tables) where
-  inside_at : (place : Place) → FitsPlace e place zone → MovesBits zone (other_zone e place) first end t u → (x : ℕ)
+  inside_at : (place : Place) → SuitsPlace e place zone → MovesBits zone (other_zone e place) first end t u → (x : ℕ)
       → first ≤ x → x < end → place_in u (entry_with e place zone) x ≡ Some zone
   inside_at Main fits moves x low high = place_zone u x e zone fits (moves.here x low high)
   inside_at NewMain fits moves x low high =
@@ -61,7 +61,7 @@ module _ (e : MapEntry) (zone first end : ℕ) (t u : Tables) where
       (λ y is. moves.cleared y x is low high)
 
   -- where a zone that the chunk gets had no valid block
-  outside_at : (place : Place) → FitsPlace e place zone → MovesBits zone (other_zone e place) first end t u → (x : ℕ)
+  outside_at : (place : Place) → SuitsPlace e place zone → MovesBits zone (other_zone e place) first end t u → (x : ℕ)
       → ((NamesZone e zone → ⊥) → is_valid t zone x ≡ false) → (x < first) ⊎ (end ≤ x)
       → place_in u (entry_with e place zone) x ≡ place_in t e x
   outside_at Main fits moves x bare out = place_same u x t e (λ y n. moves.outside y x out)
@@ -124,7 +124,7 @@ module _ (s : Sets) (are : AreSets s) (chunk first end : ℕ) (place : Place) (z
     ]
   ]
 
-  module _ (some : 0 < s.geometry.zone_blocks) (fits : FitsPlace (entry_of (new_tables s) chunk) place zone) where
+  module _ (some : 0 < s.geometry.zone_blocks) (fits : SuitsPlace (entry_of (new_tables s) chunk) place zone) where
     -- THE SECTORS: those of the range
     pub written_there : (n : ℕ) → IsWithin s.geometry.zone_blocks chunk first end n
         → zone_at s.geometry.zone_blocks (tables_in s.geometry s.head.layout bytes) n ≡ Some zone

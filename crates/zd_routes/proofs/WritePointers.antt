@@ -1,6 +1,6 @@
 -- Pointers and a job's copies after a write that was done.
-use Rattle.std.proofs.Common.{◌≡◌, ◌≢◌, ℕ, ◌+◌, ◌*◌, ◌%◌, ◌<◌, ◌≤◌, Bool, cond, List, [], ◌∷◌, ◌++◌, length, Option}
-use Rattle.std.proofs.Common.{Some, None, inl, inr, refl, sym, ap, ◌∙◌, subst, arith}
+use Rattle.std.proofs.Common.{◌≡◌, ◌≢◌, ℕ, ◌+◌, ◌*◌, ◌<◌, ◌≤◌, Bool, cond, List, [], ◌∷◌, ◌++◌, length, Option}
+use Rattle.std.proofs.Common.{Some, None, inl, inr, refl, sym, ap, ◌∙◌, arith}
 use Rattle.std.proofs.lemmas.Bool.{cases_eq, le-ltb}
 use Rattle.std.proofs.lemmas.Grind.{get_or-set_at}
 use Rattle.std.proofs.lemmas.List.{get_or-set_other}
@@ -17,7 +17,6 @@ use Rattle.zd_model.specs.Safe.{last_at}
 use Rattle.zd_model.specs.Tables.{entry_of}
 use Rattle.zd_model.proofs.LastLaws.{covers_cases}
 use Rattle.zd_disk.specs.Steps.{Wrote, count_of}
-use Rattle.zd_tables.specs.Tables.{tables_in}
 use Rattle.zd_volume.specs.Discards.{NoJobOn, chunk_touched, range_end, range_first}
 use Rattle.zd_volume.specs.Jobs.{AreCopied, HasCopies, IsJob, IsJobOrNone, IsTarget, sector_of_chunk, source_of}
 use Rattle.zd_volume.specs.Sets.{AreSets, Sets, device_sectors, new_tables}
@@ -116,8 +115,7 @@ module _ (s : Sets) (are : AreSets s) (base : List (List ℕ)) (size : length ba
         (sym (others_as_were s are c (range_first s.geometry.zone_blocks e.what)
         (range_end s.geometry.zone_blocks e.what) place zone fresh goal.data_zone.1 goal.alone range
         w.job.chunk y x off (source_named w.job.kind (entry_of (new_tables s) w.job.chunk) y from)) ∙ valid) few in
-        let same = wrote.others z (λ at. no_target (to ∙ ap (λ (n : ℕ). Some n) at)) in
-        (
+        let same = wrote.others z (λ at. no_target (to ∙ ap (λ (n : ℕ). Some n) at)) in (
           omega (arith, was.0, same.held),
           same.sectors (8 * x + i) (omega (arith, was.0, few)) ∙ was.1
               ∙ sym (other_last w.job.chunk x i off (omega (arith, low, inside)) few),

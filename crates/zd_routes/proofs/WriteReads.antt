@@ -1,21 +1,19 @@
 -- What the disk reads as after a write that was done: the new tables serve what is there last.
-use Rattle.std.proofs.Common.{◌≡◌, ◌⊎◌, ℕ, ◌+◌, ◌-◌, ◌*◌, ◌/◌, ◌%◌, ◌<◌, ◌≤◌, List, [], ◌∷◌, ◌++◌, length, Option, Some}
+use Rattle.std.proofs.Common.{◌≡◌, ◌⊎◌, ℕ, ◌+◌, ◌-◌, ◌*◌, ◌/◌, ◌%◌, ◌<◌, ◌≤◌, List, [], ◌∷◌, ◌++◌, length}
 use Rattle.std.proofs.Common.{inl, inr, sym, ap, ◌∙◌, subst, arith}
 use Rattle.std.proofs.lemmas.Bool.{cases_eq}
 use Rattle.zd_base.specs.Geometry.{zone_count}
 use Rattle.zd_base.specs.Layout.{first_data_zone}
 use Rattle.zd_model.specs.History.{HistoryEntry}
 use Rattle.zd_model.specs.Image.{Image}
-use Rattle.zd_model.specs.Places.{spot, zone_at}
 use Rattle.zd_model.specs.Plain.Answer.{Done}
 use Rattle.zd_model.specs.Requests.{block_count, first_block}
 use Rattle.zd_model.specs.Safe.{last_at}
-use Rattle.zd_model.specs.Tables.{NamesZone, Tables, entry_of, sector_of}
-use Rattle.zd_model.specs.declared.metadata.MapEntry.{MapEntry}
+use Rattle.zd_model.specs.Tables.{NamesZone, Tables, entry_of}
 use Rattle.zd_model.proofs.LastLaws.{covers_cases}
 use Rattle.zd_model.proofs.ServedLaws.{placed}
 use Rattle.zd_disk.specs.OfGeometry.{IsImageOf}
-use Rattle.zd_disk.specs.Steps.{Wrote, count_of, piece}
+use Rattle.zd_disk.specs.Steps.{Wrote, count_of}
 use Rattle.zd_sets.specs.Stages.{IsWritten}
 use Rattle.zd_sets.proofs.StageLaws.{written_stays}
 use Rattle.zd_tables.specs.Rules.{AreBelow}
@@ -33,7 +31,7 @@ use Rattle.zd_routes.specs.Edges.{IsMerged}
 use Rattle.zd_routes.specs.Routes.{WritesBlocks, WritesRange, entry_with, other_zone}
 use Rattle.zd_routes.proofs.WriteCovers.{below_end, block_within, from_first, sector_here, spot_here, touched_within}
 use Rattle.zd_routes.proofs.WriteLasts.{count_merged, last_beside, last_merged}
-use Rattle.zd_routes.proofs.WritePlaces.{FitsPlace, others_there, valid_from, written_there}
+use Rattle.zd_routes.proofs.WritePlaces.{SuitsPlace, others_there, valid_from, written_there}
 
 -- a sector is in these blocks of the chunk, or isn't
 pub within_or : (b chunk first end n : ℕ) → IsWithin b chunk first end n ⊎ (IsWithin b chunk first end n → ⊥)
@@ -50,7 +48,7 @@ within_or b chunk first end n = elim (cases_eq (n / 8 / b) chunk) [
 pub record IsGoalZone (s : Sets) (chunk : ℕ) (place : Place) (zone : ℕ) : Type 0 where
   pub data_zone : (first_data_zone s.geometry s.head.layout ≤ zone) × (zone < zone_count s.geometry)
   pub alone : (c : ℕ) → NamesZone (entry_of (new_tables s) c) zone → c ≡ chunk
-  pub fits : FitsPlace (entry_of (new_tables s) chunk) place zone
+  pub fits : SuitsPlace (entry_of (new_tables s) chunk) place zone
 
 -- THE TABLES of a write of this request
 abbrev pub WritesIn : Sets → HistoryEntry → Place → ℕ → List ℕ → Type 0

@@ -1,5 +1,5 @@
 -- Where a write goes, and what it makes of the tables.
-use Rattle.std.specs.Prelude.{◌≡◌, ◌≢◌, ◌⊎◌, ℕ, ◌<◌, ◌≤◌, true, false, cond, nat_lt}
+use Rattle.std.specs.Prelude.{◌≡◌, ◌≢◌, ◌⊎◌, ℕ, ◌<◌, ◌≤◌, Bool, true, false, cond, nat_lt}
 use Rattle.std.specs.Prelude.{List, length, slice_index, set, Option, Some, None, ⊤}
 use Rattle.zd_base.specs.Geometry.{Shape}
 use Rattle.zd_base.specs.declared.geometry.Kind.TheVariants.{Conventional}
@@ -12,6 +12,7 @@ use Rattle.zd_model.specs.Tables.{Tables, entry_of, is_valid}
 use Rattle.zd_model.specs.declared.metadata.MapEntry.{MapEntry}
 use Rattle.zd_model.specs.declared.requests.What.{What}
 use Rattle.zd_sets.specs.Blocks.{blocks_of}
+use Rattle.zd_tables.specs.Changes.{SetsEntry, entry_block}
 use Rattle.zd_tables.specs.Tables.{tables_in}
 use Rattle.zd_volume.specs.Discards.{chunk_touched, range_end, range_first}
 use Rattle.zd_volume.specs.Flights.{tables_now}
@@ -80,6 +81,15 @@ uses_with NewBuffer z uses = set uses z Held
 -- the pointers then, where the write ends before this block: that of a sequential zone is there
 abbrev pub pointers_with : Shape → List ℕ → ℕ → ℕ → List ℕ
 pointers_with g pointers z end = cond (nat_lt z g.conv) pointers (set pointers z end)
+
+-- the entry is set and its block is marked where a zone is taken; else nothing changes
+abbrev pub GivesEntry : Place → ℕ → MapEntry → List ℕ → List ℕ → List Bool → List Bool → Type 0
+GivesEntry Main chunk entry old new dirty marked = (new ≡ old) × (marked ≡ dirty)
+GivesEntry NewMain chunk entry old new dirty marked =
+    SetsEntry chunk entry old new × (marked ≡ set dirty (entry_block chunk) true)
+GivesEntry Buffer chunk entry old new dirty marked = (new ≡ old) × (marked ≡ dirty)
+GivesEntry NewBuffer chunk entry old new dirty marked =
+    SetsEntry chunk entry old new × (marked ≡ set dirty (entry_block chunk) true)
 
 -- the entry of the chunk of a request
 abbrev pub entry_touched : PlainVolume → What → MapEntry

@@ -168,7 +168,7 @@ impl<D: ZonedDisk> Volume<D> {
     /// The history is legal, and what the volume serves is what the history makes of the sectors that
     /// it served at opening.
     pub fn serves(&self)
-        ensures legal { WhereTold (D.view self.now.disk).zones (λ _.
+        ensures legal { (D.view self.now.disk).calls < 2 ^ 64 - 1 → WhereTold (D.view self.now.disk).zones (λ _.
             IsLegal (base_at (D.view self.now.opening).zones) self.now.plain.history) }
         ensures served { self.now.plain.stopped ≡ None → WhereTold (D.view self.now.disk).zones (λ i.
             served self.now.plain.geometry.zone_blocks (new_tables (sets_of self.now.plain)) i.sector

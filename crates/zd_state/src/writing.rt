@@ -1,6 +1,6 @@
 //! Writes: one call of the disk, and what it makes of the tables.
 
-ghost use Rattle.std.specs.Prelude.{◌≡◌, ◌⊎◌, ℕ, ◌+◌, ◌*◌, ◌<◌, ◌≤◌, ◌++◌, ◌∷◌, [], length, set, true, Some};
+ghost use Rattle.std.specs.Prelude.{◌≡◌, ◌⊎◌, ℕ, ◌+◌, ◌-◌, ◌*◌, ◌^◌, ◌<◌, ◌≤◌, ◌++◌, ◌∷◌, [], length, set, true, Some};
 ghost use Rattle.zd_alloc.specs.Candidates.{Follows};
 ghost use Rattle.zd_alloc.specs.Order.{PutsLast};
 ghost use Rattle.zd_base.specs.Geometry.{zone_count};
@@ -11,13 +11,14 @@ ghost use Rattle.zd_model.specs.Plain.{Answer as answers};
 ghost use Rattle.zd_model.specs.Requests.{block_count};
 ghost use Rattle.zd_model.specs.Tables.{entry_of};
 ghost use Rattle.zd_routes.specs.Edges.{AreEdges};
-ghost use Rattle.zd_routes.specs.Routes.{HasPlace, IsGoal, IsRoute, WritesBlocks, other_zone, pointers_with, uses_with};
+ghost use Rattle.zd_routes.specs.Routes.{GivesEntry, HasPlace, IsGoal, IsRoute, WritesBlocks, WritesRange, entry_touched, entry_with, other_zone, pointers_with, uses_with};
 ghost use Rattle.zd_routes.specs.Writes.{CallsOnce, WriteCause, WriteDid, WritesPiece, with_failed_write};
 ghost use Rattle.zd_state.specs.Puts.{PutsBlocks};
 ghost use Rattle.zd_state.specs.Seen.{SameSession};
 ghost use Rattle.zd_tables.specs.Changes.{SetsEntry, entry_block};
 ghost use Rattle.zd_volume.specs.Discards.{NoJobOn, chunk_touched, range_end, range_first};
 ghost use Rattle.zd_volume.specs.Flights.{answered, tables_now};
+ghost use Rattle.zd_volume.specs.Marks.{MarksChanged};
 ghost use Rattle.zd_volume.specs.Sets.{used};
 ghost use Rattle.zd_volume.specs.Volumes.{IsFixed, sets_of};
 ghost use Rattle.zd_volume.specs.declared.phase.Phase.TheVariants.{Idle};
@@ -213,22 +214,21 @@ impl VolumeState {
         self.enter(piece, Reply::Done);
     }
 
-    /// A write was done: the tables, and all that goes with them.
-    fn map_write(&mut self, piece: &Piece, place: Place, zone: ZoneNo)
-        requires fixed { IsFixed self.old.plain }
-        requires idle { self.old.plain.phase ≡ Idle }
-        requires piece { WritesBlocks (sets_of self.old.plain) piece.now.what }
-        requires job { NoJobOn self.old.plain.job
-            (chunk_touched self.old.plain.geometry.zone_blocks piece.now.what) }
-        requires route { IsRoute self.old.plain piece.now.what place zone }
-        requires spare { 0 < self.old.spare }
-        ensures wrote { WritesPiece self.old.plain self.new.plain piece.now place zone }
-        ensures spare { self.old.spare ≤ self.new.spare + 1 }
-        ensures room { self.new.room ≡ self.old.room }
+    /// Gives a chunk its entry after a write to this place. Its block is dirty where that is another one.
+    fn map_entry(&mut self, chunk: ChunkNo, entry: MapEntry, place: Place, zone: ZoneNo)
+        requires flags { length self.old.plain.dirty ≡ used (sets_of self.old.plain) }
+        requires chunk { chunk < self.old.plain.head.layout.chunks }
+        requires entry { NamesZones entry }
+        requires zone { zone < 2 ^ 32 - 1 }
+        ensures gives { GivesEntry place chunk (entry_with entry place zone) self.old.plain.fresh
+            self.new.plain.fresh self.old.plain.dirty self.new.plain.dirty }
+        ensures rest { self.new ≡ record self.old {
+          plain = record self.old.plain {
+            fresh = self.new.plain.fresh;
+            dirty = self.new.plain.dirty;
+          };
+        } }
     {
-        let (chunk, first, count) = self.range_of(piece);
-        let entry = self.tables.entry(chunk);
-        self.take_goal(place, zone, entry);
         match place {
             Place::Main | Place::Buffer => {}
             Place::NewMain => self.give_entry(
@@ -246,8 +246,49 @@ impl VolumeState {
                 },
             ),
         }
+    }
+
+    /// Maps the blocks of a write: the chunk's entry, and which blocks are valid in its zones.
+    fn map_blocks(&mut self, piece: &Piece, place: Place, zone: ZoneNo)
+        requires fixed { IsFixed self.old.plain }
+        requires piece { WritesBlocks (sets_of self.old.plain) piece.now.what }
+        requires route { IsRoute self.old.plain piece.now.what place zone }
+        ensures range { WritesRange (sets_of self.old.plain)
+            (chunk_touched self.old.plain.geometry.zone_blocks piece.now.what)
+            (range_first self.old.plain.geometry.zone_blocks piece.now.what)
+            (range_end self.old.plain.geometry.zone_blocks piece.now.what)
+            (entry_with (entry_touched self.old.plain piece.now.what) place zone) zone
+            (other_zone (entry_touched self.old.plain piece.now.what) place) self.new.plain.fresh }
+        ensures marks { MarksChanged self.old.plain.fresh self.new.plain.fresh self.old.plain.dirty
+            self.new.plain.dirty }
+        ensures rest { self.new ≡ record self.old {
+          plain = record self.old.plain {
+            fresh = self.new.plain.fresh;
+            dirty = self.new.plain.dirty;
+          };
+        } }
+    {
+        let (chunk, first, count) = self.range_of(piece);
+        let entry = self.tables.entry(chunk);
+        self.map_entry(chunk, entry, place, zone);
         self.give_blocks(Some(zone), first, count, true);
         self.give_blocks(other_zone(entry, place), first, count, false);
+    }
+
+    /// A write was done: the tables, and all that goes with them.
+    fn map_write(&mut self, piece: &Piece, place: Place, zone: ZoneNo)
+        requires fixed { IsFixed self.old.plain }
+        requires piece { WritesBlocks (sets_of self.old.plain) piece.now.what }
+        requires route { IsRoute self.old.plain piece.now.what place zone }
+        requires spare { 0 < self.old.spare }
+        ensures wrote { WritesPiece self.old.plain self.new.plain piece.now place zone }
+        ensures spare { self.old.spare ≤ self.new.spare + 1 }
+        ensures room { self.new.room ≡ self.old.room }
+    {
+        let (chunk, first, count) = self.range_of(piece);
+        let entry = self.tables.entry(chunk);
+        self.map_blocks(piece, place, zone);
+        self.take_goal(place, zone, entry);
         self.move_pointer(zone, first + count);
         self.reclass(chunk);
         self.touch(chunk);

@@ -253,7 +253,7 @@ module _ (v : PlainVolume) (opening d : View) (was : IsKeptVolume v opening d) (
             e.faults (faults_later v.history v.stopped opening.faults d.faults e.faults was.faulted call.stays.later);
         calm = λ still. calm_more v.history entries (was.calm still)
             (none_calm entries (done_none (next_count v.since) entries flushes));
-        legal = legal;
+        legal = λ _. legal;
         past = λ k m x l may. older k m x (omega arith) may;
         reads = λ _ r j t u of_r of_j now.
             let new = read_same v opening d was r j of_r (both_at Same d.zones e.zones turns.reads r j t u) now in

@@ -108,7 +108,7 @@ module _ (v : PlainVolume) (opening d e : View) (runs : v.stopped ≡ None) (was
         generation = λ one g. omega (arith, one, g);
         faulted = faults_by v opening d e done runs was call.stays.later failed;
         calm = λ _. was.calm runs;
-        legal = λ r t l. l;
+        legal = λ _ r t l. l;
         past = λ k n x l m. m;
         reads = λ still r j t u of_r of_j was_now. now (done_runs done still) r j t u of_r of_j was_now;
         before = λ r i c one known s t.
@@ -153,7 +153,7 @@ module _ (v : PlainVolume) (opening d e : View) (runs : v.stopped ≡ None) (was
         generation = λ one g. omega (arith, one, g);
         faulted = faults_by v opening d e done runs was call.stays.later failed;
         calm = λ _. was.calm runs;
-        legal = λ r t l. l;
+        legal = λ _ r t l. l;
         past = λ k n x l m. m;
         reads = λ still r j t u of_r of_j was_now. now (done_runs done still) r j t u of_r of_j was_now;
         before = λ r i c one known s t.

@@ -1,5 +1,5 @@
 -- A write of a piece, in Idle, done or failed.
-use Rattle.std.proofs.Common.{◌≡◌, ◌⊎◌, ℕ, ◌+◌, ◌<◌, ◌≤◌, Bool, true, false, List, [], ◌∷◌, ◌++◌, length, Option, Some, None}
+use Rattle.std.proofs.Common.{◌≡◌, ◌⊎◌, ℕ, ◌+◌, ◌-◌, ◌^◌, ◌<◌, ◌≤◌, Bool, true, false, List, [], ◌∷◌, ◌++◌, length, Option, Some, None}
 use Rattle.std.proofs.Common.{refl, subst, arith}
 use Rattle.zd_base.specs.Geometry.{Shape}
 use Rattle.zd_base.specs.Layout.{first_data_zone}
@@ -56,13 +56,13 @@ module _ (v : PlainVolume) (opening d e : View) (runs : v.stopped ≡ None) (was
       → entry.at ≡ next_count v.since → is_done_flush entry.what entry.reply ≡ false
       → TellsFaults (v.history ++ entry ∷ []) (stopped_by done) opening.faults e.faults
       → (done ≡ true → AreCalm (v.history ++ entry ∷ []))
-      → ((k n j : ℕ) → next_count v.since ≤ k + 1 → n < device_sectors (sets_of v)
+      → ((r : Image) → d.zones ≡ Some r → (k n j : ℕ) → next_count v.since ≤ k + 1 → n < device_sectors (sets_of v)
       → zone_at v.geometry.zone_blocks (old_tables (sets_of v)) n ≡ Some z → j < count_of bytes
       → spot v.geometry.zone_blocks n ≡ start + j
       → Adds (length (base_at opening.zones)) k n (piece bytes j) entry
       ⊎ (piece bytes j ≡ last_at (base_at opening.zones) v.history n))
       → ((r : Image) → d.zones ≡ Some r → IsNow v (base_at opening.zones) r → v.geometry.conv ≤ z → start ≡ r.held z)
-      → ((r : Image) → d.zones ≡ Some r → IsLegal (base_at opening.zones) v.history
+      → (e.calls < 2 ^ 64 - 1 → (r : Image) → d.zones ≡ Some r → IsLegal (base_at opening.zones) v.history
       → IsLegal (base_at opening.zones) (v.history ++ entry ∷ []))
       → Calls (λ r. WriteStep r z start bytes) (λ r j. WriteLeaves r j z start bytes) d e
       → IsKeptVolume (after_write v fresh dirty division pointers standings entry (stopped_by done)) opening e
@@ -110,7 +110,7 @@ module _ (v : PlainVolume) (opening d e : View) (runs : v.stopped ≡ None) (was
       moved k r i c le one t known s =
           left_write (sets_of v) was.fixed.sets entry v.since k z start bytes fresh (base_at opening.zones) v.history
           r i c known.reads_of known.left_of le was.counted.by_now plain
-          (λ n j low place few spot_is. own k n j (omega (arith, one, le)) low place few spot_is) s
+          (λ n j low place few spot_is. own r t k n j (omega (arith, one, le)) low place few spot_is) s
           (λ seq. pointer r t known.reads (subst (λ (g : Shape). g.conv ≤ z) known.left_of.geometry seq))
           (sets_apart (sets_of v) was.fixed.sets i c known.left_of z far s.geometry s.others)
           (as_idle r known.reads_left) (as_idle i known.left_is)

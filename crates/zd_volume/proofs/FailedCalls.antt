@@ -52,7 +52,7 @@ kept_failed_call v entries opening d e step runs was did rose all legal safe =
       faulted = faults_flushes (next_count v.since) v.history entries v.stopped opening.faults d.faults e.faults
           was.faulted (was.calm runs) did.stays.later rose all;
       calm = λ x. absurd (let f : ⊥ = cc in f);
-      legal = legal;
+      legal = λ _. legal;
       past = λ k n x l m. failed_hold (base_at opening.zones) (next_count v.since) k n x v.history entries all m;
       reads = λ x. absurd (let f : ⊥ = cc in f);
       before = λ r i c one known w t. more v.since c (safe v.since r i c (omega arith) known w t);

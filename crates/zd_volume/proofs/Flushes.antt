@@ -57,7 +57,7 @@ module _ (v : PlainVolume) (opening d e : View) (runs : v.stopped ≡ None) (was
         generation = λ one g. omega (arith, one, g);
         faulted = faults_later v.history v.stopped opening.faults d.faults e.faults was.faulted call.stays.later;
         calm = was.calm;
-        legal = λ r t l. l;
+        legal = λ _ r t l. l;
         past = λ k n x l m. m;
         reads = λ _ r j t u of_r of_j now.
             let new = read_same v opening d was r j of_r (both_at Same d.zones e.zones turns.reads r j t u) now in

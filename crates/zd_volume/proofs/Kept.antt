@@ -100,7 +100,10 @@ module _ (v w : PlainVolume) (opening u x : View) (step : Image → Image → Im
     faulted = leads.faulted;
     calm = leads.calm;
     based = λ j there. (let r = did.from j there in was.based r.0 r.1 ∙ sym same_count);
-    legal = λ j there. (let r = did.from j there in leads.legal r.0 r.1 (was.legal r.0 r.1));
+    legal = λ small j there.
+        let r = did.from j there in
+        let more = did.calls in
+        leads.legal small r.0 r.1 (was.legal (omega (arith, small, more)) r.0 r.1);
     reads = λ still j there.
         let r = did.from j there in
         leads.reads still r.0 j r.1 there (of_now r.0 r.1) (of_reads j there) (was.reads runs r.0 r.1);

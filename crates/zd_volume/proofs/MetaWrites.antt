@@ -111,7 +111,7 @@ module _ (v : PlainVolume) (opening d e : View) (runs : v.stopped ≡ None) (was
         generation = λ one g. omega (arith, one, g);
         faulted = faults_later v.history v.stopped opening.faults d.faults e.faults was.faulted call.stays.later;
         calm = was.calm;
-        legal = λ r t l. l;
+        legal = λ _ r t l. l;
         past = λ k n x l m. m;
         reads = λ _ r j t u of_r of_j now. reads turns r j t u of_r of_j now;
         before = λ r i c one known w t.

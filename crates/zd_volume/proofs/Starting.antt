@@ -124,7 +124,7 @@ module _ (g : Shape) (head : Super) (bytes : List ℕ) (dirty : List Bool) (divi
       calm = λ _. tt;
       based = λ r t. at_told r t (λ b. length b ≡ device_sectors s)
           (base_size s fixed.sets r (of_reads r t) (opens.reads r t));
-      legal = λ r t. record { answers = tt; in_time = tt };
+      legal = λ _ r t. record { answers = tt; in_time = tt };
       reads = λ _ r t. at_told r t (λ b. IsNow v b r)
           (record {
             read = read r t;

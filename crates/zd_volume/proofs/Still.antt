@@ -69,7 +69,10 @@ kept_still v w opening u x same io was leads = record {
   based = λ r there.
       was.based r (sym io.zones ∙ there)
       ∙ sym (ap₂ (λ (h : Super) (g : Shape). h.layout.chunks * g.zone_blocks * 8) same.head same.geometry);
-  legal = λ r there. leads.legal r (sym io.zones ∙ there) (was.legal r (sym io.zones ∙ there));
+  legal = λ small r there.
+      let same_calls = io.calls in
+      leads.legal r (sym io.zones ∙ there)
+      (was.legal (omega (arith, small, same_calls)) r (sym io.zones ∙ there));
   reads = λ runs r there.
       leads.reads runs r (sym io.zones ∙ there) (was.reads (same.runs runs) r (sym io.zones ∙ there));
   stops = λ runs small r there i l.

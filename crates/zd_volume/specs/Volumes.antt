@@ -107,7 +107,8 @@ pub record IsKeptVolume (v : PlainVolume) (opening now : View) : Type 0 where
   pub faulted : TellsFaults v.history v.stopped opening.faults now.faults
   pub calm : v.stopped ≡ None → AreCalm v.history
   pub based : WhereTold now.zones (λ _. length (base_at opening.zones) ≡ device_sectors (sets_of v))
-  pub legal : WhereTold now.zones (λ _. IsLegal (base_at opening.zones) v.history)
+  pub legal : now.calls < 2 ^ 64 - 1 → WhereTold now.zones (λ _.
+      IsLegal (base_at opening.zones) v.history)
   pub reads : v.stopped ≡ None → WhereTold now.zones (IsNow v (base_at opening.zones))
   pub stops : v.stopped ≡ None → now.calls < 2 ^ 64 - 1 → WhereTold now.zones (λ _.
       (i : Image) → now.left now.calls i → MayBe v (base_at opening.zones) i)
@@ -151,7 +152,8 @@ pub record Leads (v w : PlainVolume) (base : List (List ℕ)) (opening u x : Vie
       w.head.generation ≤ w.opening_generation + w.since
   pub faulted : TellsFaults w.history w.stopped opening.faults x.faults
   pub calm : w.stopped ≡ None → AreCalm w.history
-  pub legal : (r : Image) → u.zones ≡ Some r → IsLegal base v.history → IsLegal base w.history
+  pub legal : x.calls < 2 ^ 64 - 1 → (r : Image) → u.zones ≡ Some r →
+      IsLegal base v.history → IsLegal base w.history
   pub past : (k n : ℕ) (y : List ℕ) → k < v.since →
       MayHold base v.history k n y → MayHold base w.history k n y
   pub reads : w.stopped ≡ None → (r j : Image) → u.zones ≡ Some r → x.zones ≡ Some j →
