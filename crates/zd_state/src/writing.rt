@@ -166,6 +166,7 @@ impl VolumeState {
           };
         } }
     {
+        let _fits = self.tables.layout();
         self.tables.set_entry(chunk, entry);
         self.dirty[1 + (chunk.0 / ENTRIES) as usize] = true;
     }

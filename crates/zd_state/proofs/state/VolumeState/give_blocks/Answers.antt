@@ -31,6 +31,6 @@ returns-in-Some-clause-gives c =
     let size : length c.mark.new.flags ≡ c.self.inside.dirty.len = c.mark.ensures.size ∙ c.deref_mut.ensures.len in
     rw (← c.self.view_is, take_at c.mark.new.flags _ c.self.inside.dirty.len size)
     (gives_in c.args.valid c.self.inside.tables.geometry c.self.inside.head.layout c.args.zone c.in-Some.zone c.args.first
-    (c.args.first + c.args.count) c.in-Some.is c.self.inside.tables.bytes changed.new.self.bytes
+    (c.args.first + c.args.count) c.in-Some.is c.self.inside.tables.bytes changed.new.tables.bytes
     c.self.inside.dirty.items c.mark.new.flags changed.result (rw c.self.invariant at changed.ensures.blocks)
     (rw c.self.invariant at changed.ensures.parts) marks)
