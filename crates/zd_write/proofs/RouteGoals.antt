@@ -1,5 +1,6 @@
 -- Which place has a zone to be written, and which place is a buffer.
-use Rattle.std.proofs.Common.{◌≡◌, ◌≢◌, ℕ, ◌<◌, List, Option, Some, None, inl, inr, refl, sym, ◌∙◌, arith}
+use Rattle.std.proofs.Common.{◌≡◌, ◌≢◌, ℕ, ◌<◌, true, List, Option, Some, None, IfSome, inl, inr, refl, sym, ◌∙◌, arith}
+use Rattle.std.specs.Option.{is_some}
 use Rattle.zd_base.specs.Geometry.{Shape}
 use Rattle.zd_base.specs.declared.geometry.Kind.TheVariants.{Conventional}
 use Rattle.zd_alloc.specs.Zones.{Division, IsLeastOf}
@@ -14,8 +15,12 @@ use Rattle.zd_volume.specs.declared.work.Place.TheVariants.{Buffer, Main, NewBuf
 use Rattle.zd_write.specs.Tries.{IsBufferPlace}
 
 some_of : (o : Option ℕ) → o ≢ None → (z : ℕ) × (o ≡ Some z)
-some_of None no = absurd (no refl)
-some_of (Some z) no = (z, refl)
+some_of None some = absurd (some refl)
+some_of (Some z) some = (z, refl)
+
+pub some_there : (o : Option ℕ) (P : ℕ → Type 0) → is_some o ≡ true → IfSome o P → (z : ℕ) × P z
+some_there None P there is = absurd (let f : ⊥ = cc in f)
+some_there (Some z) P there is = (z, is)
 
 module _ (g : Shape) (pointers : List ℕ) (e : MapEntry) (first : ℕ) where
   -- a place has a zone, where there is one to be taken if it takes one

@@ -1,6 +1,6 @@
 //! Where a write goes.
 
-ghost use Rattle.std.specs.Prelude.{◌≡◌, ◌↔◌, IfNone, IfSome, IsTrue, None};
+ghost use Rattle.std.specs.Prelude.{◌≡◌, ◌↔◌, ◌<◌, IfNone, IfSome, IsTrue, None};
 ghost use Rattle.zd_routes.specs.Routes.{GoesTo, HasPlace, LacksZone, TakesZone, WritesBlocks, entry_touched};
 ghost use Rattle.zd_volume.specs.Discards.{chunk_touched, range_first};
 ghost use Rattle.zd_volume.specs.Volumes.{sets_of};
