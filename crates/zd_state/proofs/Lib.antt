@@ -4,4 +4,5 @@ pub mod StartClasses
 pub mod StartValues
 pub mod DiscardSteps
 pub mod HeldZones
+pub mod MapSteps
 pub mod WriteSteps

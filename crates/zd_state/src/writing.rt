@@ -39,8 +39,8 @@ const BLOCK_SECTORS: u32 = 8;
 const ENTRIES: u32 = 512;
 
 /// The chunk's other zone, in which the blocks of a write become invalid.
-fn other_zone(entry: MapEntry, place: Place) -> Option<ZoneNo>
-    ensures { result ≡ other_zone entry place }
+fn other_zone(entry: &MapEntry, place: Place) -> Option<ZoneNo>
+    ensures { result ≡ other_zone entry.now place }
 {
     match place {
         Place::Main => entry.buffer,
@@ -96,9 +96,9 @@ impl VolumeState {
     }
 
     /// The zone that a write goes to: of a new one the one that is taken.
-    fn goal(&self, entry: MapEntry, place: Place) -> ZoneNo
-        requires { (zone : ℕ) × IsGoal entry self.now.plain.division place zone }
-        ensures { IsGoal entry self.now.plain.division place result }
+    fn goal(&self, entry: &MapEntry, place: Place) -> ZoneNo
+        requires { (zone : ℕ) × IsGoal entry.now self.now.plain.division place zone }
+        ensures { IsGoal entry.now self.now.plain.division place result }
     {
         match place {
             Place::Main => entry.zone.unwrap(),
@@ -117,7 +117,7 @@ impl VolumeState {
         ensures { IsRoute self.now.plain piece.now.what place result }
     {
         let (chunk, _, _) = self.range_of(piece);
-        self.goal(self.tables.entry(chunk), place)
+        self.goal(&self.tables.entry(chunk), place)
     }
 
     /// A write failed: it is entered so, and the volume is stopped.
@@ -135,8 +135,8 @@ impl VolumeState {
 
 impl VolumeState {
     /// Takes the zone of a write that needs a new one.
-    fn take_goal(&mut self, place: Place, zone: ZoneNo, entry: MapEntry)
-        requires { IsGoal entry self.old.plain.division place zone }
+    fn take_goal(&mut self, place: Place, zone: ZoneNo, entry: &MapEntry)
+        requires { IsGoal entry.now self.old.plain.division place zone }
         ensures zones { self.new.plain.division.zones ≡ uses_with place zone self.old.plain.division.zones }
         ensures conv { self.new.plain.division.conv ≡ self.old.plain.division.conv }
         ensures order { self.new.plain.division.order ≡ self.old.plain.division.order }
@@ -216,12 +216,12 @@ impl VolumeState {
     }
 
     /// Gives a chunk its entry after a write to this place. Its block is dirty where that is another one.
-    fn map_entry(&mut self, chunk: ChunkNo, entry: MapEntry, place: Place, zone: ZoneNo)
+    fn map_entry(&mut self, chunk: ChunkNo, entry: &MapEntry, place: Place, zone: ZoneNo)
         requires flags { length self.old.plain.dirty ≡ used (sets_of self.old.plain) }
         requires chunk { chunk < self.old.plain.head.layout.chunks }
-        requires entry { NamesZones entry }
+        requires entry { NamesZones entry.now }
         requires zone { zone < 2 ^ 32 - 1 }
-        ensures gives { GivesEntry place chunk (entry_with entry place zone) self.old.plain.fresh
+        ensures gives { GivesEntry place chunk (entry_with entry.now place zone) self.old.plain.fresh
             self.new.plain.fresh self.old.plain.dirty self.new.plain.dirty }
         ensures rest { self.new ≡ record self.old {
           plain = record self.old.plain {
@@ -271,9 +271,9 @@ impl VolumeState {
     {
         let (chunk, first, count) = self.range_of(piece);
         let entry = self.tables.entry(chunk);
-        self.map_entry(chunk, entry, place, zone);
+        self.map_entry(chunk, &entry, place, zone);
         self.give_blocks(Some(zone), first, count, true);
-        self.give_blocks(other_zone(entry, place), first, count, false);
+        self.give_blocks(other_zone(&entry, place), first, count, false);
     }
 
     /// A write was done: the tables, and all that goes with them.
@@ -289,7 +289,7 @@ impl VolumeState {
         let (chunk, first, count) = self.range_of(piece);
         let entry = self.tables.entry(chunk);
         self.map_blocks(piece, place, zone);
-        self.take_goal(place, zone, entry);
+        self.take_goal(place, zone, &entry);
         self.move_pointer(zone, first + count);
         self.reclass(chunk);
         self.touch(chunk);
