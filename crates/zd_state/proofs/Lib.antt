@@ -6,3 +6,4 @@ pub mod DiscardSteps
 pub mod HeldZones
 pub mod MapSteps
 pub mod WriteSteps
+pub mod PromotionSteps

@@ -1,6 +1,8 @@
 //! Promotions: a chunk's buffer becomes its zone.
 
-ghost use Rattle.std.specs.Prelude.{◌≡◌, ◌↔◌, ℕ, ◌<◌, None, IfNone, IfSome, IsTrue};
+ghost use Rattle.std.specs.Prelude.{◌≡◌, ◌↔◌, ℕ, ◌<◌, false, get_or, length, set, None, IfNone, IfSome, IsTrue};
+ghost use Rattle.zd_alloc.specs.Zones.{use_after_release, use_at};
+ghost use Rattle.zd_alloc.specs.declared.uses.ZoneUse.TheVariants.{Held};
 ghost use Rattle.zd_routes.specs.Promotions.{IsBare, PromotesChunk};
 ghost use Rattle.zd_state.specs.Seen.{SameSession};
 ghost use Rattle.zd_volume.specs.Discards.{NoJobOn};
@@ -14,6 +16,22 @@ use zd_disk::ZonedDisk;
 use zd_model::MapEntry;
 
 impl VolumeState {
+    /// Gives a zone back: into limbo where the committed map names it, else it is free.
+    pub(crate) fn release(&mut self, zone: ZoneNo)
+        requires flag { zone < length self.old.plain.named }
+        requires inside { zone < length self.old.plain.division.zones }
+        requires held { use_at self.old.plain.division.zones zone ≡ Held }
+        ensures zones { self.new.plain.division.zones ≡ set self.old.plain.division.zones zone
+            (use_after_release (get_or self.old.plain.named zone false)) }
+        ensures conv { self.new.plain.division.conv ≡ self.old.plain.division.conv }
+        ensures order { self.new.plain.division.order ≡ self.old.plain.division.order }
+        ensures rest { self.new ≡ record self.old {
+          plain = record self.old.plain { division = self.new.plain.division };
+        } }
+    {
+        self.alloc.release(zone, self.named[zone.0 as usize]);
+    }
+
     /// Makes a chunk's buffer its zone, and gives the old zone back.
     fn raise_buffer(&mut self, chunk: ChunkNo, zone: ZoneNo, buffer: ZoneNo)
         requires fixed { IsFixed self.old.plain }
@@ -29,7 +47,7 @@ impl VolumeState {
                 buffer: None,
             },
         );
-        self.alloc.release(zone, self.named[zone.0 as usize]);
+        self.release(zone);
         self.reclass(chunk);
     }
 
