@@ -82,7 +82,7 @@ abandoned_uses from to fixed did =
 
 -- GIVING UP THE JOB ON A CHUNK
 module _ (from to : PlainVolume) (chunk : ℕ) (gives : GivesUpOn from to chunk) where
-  pub given_rest : to ≡ record from { job = to.job; division = to.division }
+  given_rest : to ≡ record from { job = to.job; division = to.division }
   given_rest = elim (on_or_not from.job chunk) [
     | inl off ↦
         subst (λ (w : PlainVolume). w ≡ record from { job = w.job; division = w.division })
@@ -90,12 +90,6 @@ module _ (from to : PlainVolume) (chunk : ℕ) (gives : GivesUpOn from to chunk)
     | inr on ↦
         subst (λ (j : Option Work). to ≡ record from { job = j; division = to.division })
         (sym (ap (λ (w : PlainVolume). w.job) (gives.on on).rest)) (gives.on on).rest
-  ]
-
-  pub given_free : NoJobOn to.job chunk
-  given_free = elim (on_or_not from.job chunk) [
-    | inl off ↦ subst (λ (w : PlainVolume). NoJobOn w.job chunk) (sym (gives.off off)) off
-    | inr on ↦ subst (λ (w : PlainVolume). NoJobOn w.job chunk) (sym (gives.on on).rest) tt
   ]
 
   module _ (fixed : IsFixed from) where

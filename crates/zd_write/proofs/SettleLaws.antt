@@ -1,5 +1,5 @@
--- A chunk is settled: it was promoted, or it isn't bare.
-use Rattle.std.proofs.Common.{◌≡◌, ℕ, Option, refl, sym, ap, ◌∙◌, subst}
+-- A bare chunk that was promoted is settled.
+use Rattle.std.proofs.Common.{◌≡◌, ℕ, sym, ap, ◌∙◌, subst}
 use Rattle.zd_disk.proofs.ToldLaws.{Some-same}
 use Rattle.zd_model.specs.declared.metadata.MapEntry.{MapEntry}
 use Rattle.zd_routes.specs.Promotions.{IsBare, PromotesChunk}
@@ -21,11 +21,4 @@ settles_bare from to chunk zone buffer bare did = record {
       (subst (λ (n : ℕ). PromotesChunk from to chunk zone n)
       (buffer_once from chunk zone buffer z b bare is) did);
   others = λ none. absurd (none zone buffer bare);
-}
-
-pub settles_other : (v : PlainVolume) (chunk : ℕ) → ((zone buffer : ℕ) × IsBare v chunk zone buffer → ⊥)
-    → Settles v v chunk
-settles_other v chunk none = record {
-  bare = λ z b is. absurd (none (z, b, is));
-  others = λ _. refl;
 }
