@@ -1,0 +1,3 @@
+pub mod RouteGoals
+pub mod GivenJobs
+pub mod SettleLaws

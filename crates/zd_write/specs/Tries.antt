@@ -1,6 +1,6 @@
 -- What a step of a write, and a discard, make of a volume.
 use Rattle.std.specs.Prelude.{◌≡◌, ◌≢◌, ◌⊎◌, ℕ, Option, Some, None}
-use Rattle.zd_disk.specs.View.{HasFailed, View}
+use Rattle.zd_disk.specs.View.{HasFailed, OnlyReads, ReadsNone, View}
 use Rattle.zd_model.specs.declared.requests.Piece.{Piece}
 use Rattle.zd_routes.specs.Promotions.{IsBare, PromotesChunk}
 use Rattle.zd_routes.specs.Routes.{LacksZone}
@@ -10,7 +10,7 @@ use Rattle.zd_volume.specs.Discards.{DropsRange, NoJobOn, chunk_touched}
 use Rattle.zd_volume.specs.Volumes.{PlainVolume}
 use Rattle.zd_volume.specs.declared.work.Place.{Place}
 use Rattle.zd_volume.specs.declared.work.Place.TheVariants.{Buffer, Main, NewBuffer, NewMain}
-use Rattle.zd_write.specs.declared.step.Tried.{Tried}
+use Rattle.zd_write.specs.declared.steps.Tried.{Tried}
 
 -- it's the chunk's buffer, one that is there or a new one
 abbrev pub IsBufferPlace : Place → Type 0
@@ -54,7 +54,7 @@ TriesWrite from to p Tried.Stopped = FailsWrite from to p
 -- its calls of the disk: one writing call, or none where it did nothing
 abbrev pub TriesCall : Tried → View → View → Type 0
 TriesCall Tried.Entered u x = CallsOnce u x
-TriesCall Tried.NoZone u x = x ≡ u
+TriesCall Tried.NoZone u x = OnlyReads u x × ReadsNone u x
 TriesCall Tried.Stopped u x = CallsOnce u x × HasFailed u x
 
 -- A DISCARD: a job on its chunk is given up, its blocks are invalid, and its chunk is settled

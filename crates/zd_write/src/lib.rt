@@ -9,9 +9,9 @@
 #![tactic(auto)]
 
 mod route;
-mod settle;
-mod step;
+mod settling;
+mod steps;
 
 pub use route::{goes_to_buffer, place};
-pub use settle::settle;
-pub use step::{Tried, discard, step};
+pub use settling::settle;
+pub use steps::{Tried, discard, step};

@@ -1,6 +1,6 @@
 //! Where a write goes.
 
-ghost use Rattle.std.specs.Prelude.{◌≡◌, ◌↔◌, IfNone, IfSome, IsTrue, None};
+ghost use Rattle.std.specs.Prelude.{◌≡◌, ◌↔◌, ◌<◌, IfNone, IfSome, IsTrue, None};
 ghost use Rattle.zd_routes.specs.Routes.{GoesTo, HasPlace, LacksZone, TakesZone, WritesBlocks, entry_touched};
 ghost use Rattle.zd_volume.specs.Discards.{chunk_touched, range_first};
 ghost use Rattle.zd_volume.specs.Volumes.{sets_of};
@@ -18,6 +18,7 @@ pub(crate) fn start_of<D: ZonedDisk>(v: &Volume<D>, piece: &Piece) -> (ChunkNo, 
     ensures chunk { result.0 ≡ chunk_touched v.now.plain.geometry.zone_blocks piece.now.what }
     ensures first { result.1 ≡ range_first v.now.plain.geometry.zone_blocks piece.now.what }
 {
+    let _chunks = v.layout().chunks;
     let zone_blocks = u64::from(v.geometry().zone_blocks());
     let (block, _) = piece.cover();
     (
@@ -33,6 +34,7 @@ fn route<D: ZonedDisk>(v: &Volume<D>, piece: &Piece) -> Place
     ensures { GoesTo v.now.plain.geometry v.now.plain.pointers (entry_touched v.now.plain piece.now.what)
         (range_first v.now.plain.geometry.zone_blocks piece.now.what) result }
 {
+    v.sound();
     let (chunk, first) = start_of(v, piece);
     let entry = v.entry(chunk);
     let Some(zone) = entry.zone else {

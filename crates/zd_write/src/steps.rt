@@ -11,7 +11,7 @@ ghost use Rattle.zd_volume.specs.declared.phase.Phase.TheVariants.{Idle};
 ghost use Rattle.zd_write.specs.Tries.{DiscardsPiece, TriesCall, TriesWrite};
 
 use crate::route::{place, start_of};
-use crate::settle::{give_up_on, settle};
+use crate::settling::{give_up_on, settle};
 use zd_disk::ZonedDisk;
 use zd_model::Piece;
 use zd_state::{Edges, Volume, Wrote};
@@ -38,11 +38,13 @@ pub fn step<D: ZonedDisk>(v: &mut Volume<D>, piece: &Piece, edges: &Edges) -> Tr
     requires spare { (0 < v.old.spare) × (block_count piece.now.what ≤ v.old.room) }
     ensures tries { TriesWrite v.old.plain v.new.plain piece.now result }
     ensures call { TriesCall result (D.view v.old.disk) (D.view v.new.disk) }
+    ensures disk { result ≡ Tried.NoZone → v.new.disk ≡ v.old.disk }
     ensures same { SameSession 1 v.old v.new }
 {
     let Some(place) = place(v, piece) else {
         return Tried::NoZone;
     };
+    v.sound();
     let (chunk, _) = start_of(v, piece);
     give_up_on(v, chunk);
     match v.write_and_map(piece, edges, place) {
