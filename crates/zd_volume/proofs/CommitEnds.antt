@@ -32,7 +32,7 @@ use Rattle.zd_volume.proofs.FlushPhases.{none_left, onward}
 use Rattle.zd_volume.proofs.Flushes.{left_is_read}
 use Rattle.zd_volume.proofs.Images.{safe_of}
 use Rattle.zd_volume.proofs.InPhases.{both_at, by_next, left_same, read_same, safe_now}
-use Rattle.zd_volume.proofs.Kept.{kept_call, told_before}
+use Rattle.zd_volume.proofs.Kept.{kept_call, told_after, told_before}
 
 -- what is needed of the values that are made anew
 pub record EndsAs (v : PlainVolume) (clean named : List Bool) (division : Division) : Type 0 where
@@ -232,6 +232,7 @@ module _ (v : PlainVolume) (opening d : View) (was : IsKeptVolume v opening d) (
         calls = call.calls;
         grows = grows_by_flush call;
         from = told_before d e Same turns;
+        shows = told_after d e Same turns;
       })
       (record {
         fixed = record {

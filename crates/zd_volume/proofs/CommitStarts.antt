@@ -71,6 +71,7 @@ pub kept_stopped : (v : PlainVolume) (opening d : View) → IsKeptVolume v openi
     → IsKeptVolume (record v { stopped = Some Why.Generation }) opening d
 kept_stopped v opening d was = record {
   tells = was.tells;
+  shows = was.shows;
   fixed = record {
     sets = was.fixed.sets;
     flags = was.fixed.flags;
@@ -108,6 +109,7 @@ pub kept_unphased : (v : PlainVolume) (p : Phase) (why : Why) (opening d : View)
     → IsKeptVolume v opening d → IsKeptVolume (record v { phase = p }) opening d
 kept_unphased v p why opening d idle halted was = record {
   tells = was.tells;
+  shows = was.shows;
   fixed = record {
     sets = was.fixed.sets;
     flags = was.fixed.flags;

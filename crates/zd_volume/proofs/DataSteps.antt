@@ -26,7 +26,7 @@ use Rattle.zd_volume.proofs.Choices.{sets_apart}
 use Rattle.zd_volume.proofs.FaultEntries.{faults_failed, faults_later}
 use Rattle.zd_volume.proofs.Images.{left_copy, left_reset}
 use Rattle.zd_volume.proofs.InPhases.{by_next, safe_now}
-use Rattle.zd_volume.proofs.Kept.{kept_call, told_before}
+use Rattle.zd_volume.proofs.Kept.{kept_call, told_after, told_before}
 
 -- only what was done goes on
 pub done_runs : (done : Bool) → stopped_by done ≡ None → done ≡ true
@@ -100,6 +100,7 @@ module _ (v : PlainVolume) (opening d e : View) (runs : v.stopped ≡ None) (was
         calls = call.calls;
         grows = grows_by_write z start bytes call;
         from = told_before d e R turns;
+        shows = told_after d e R turns;
       })
       (record {
         fixed = fixed;
@@ -144,6 +145,7 @@ module _ (v : PlainVolume) (opening d e : View) (runs : v.stopped ≡ None) (was
         calls = call.calls;
         grows = grows_by_reset z call;
         from = told_before d e R turns;
+        shows = told_after d e R turns;
       })
       (record {
         fixed = fixed;

@@ -29,7 +29,7 @@ use Rattle.zd_volume.proofs.Choices.{sets_apart}
 use Rattle.zd_volume.proofs.DataSteps.{NowAfter, done_runs}
 use Rattle.zd_volume.proofs.Images.{left_write, safe_of}
 use Rattle.zd_volume.proofs.InPhases.{next_more}
-use Rattle.zd_volume.proofs.Kept.{kept_call, told_before}
+use Rattle.zd_volume.proofs.Kept.{kept_call, told_after, told_before}
 
 abbrev pub after_write : PlainVolume → List ℕ → List Bool → Division → List ℕ → Standings → HistoryEntry → Option Why
     → PlainVolume
@@ -77,6 +77,7 @@ module _ (v : PlainVolume) (opening d e : View) (runs : v.stopped ≡ None) (was
         calls = call.calls;
         grows = grows_by_write z start bytes call;
         from = told_before d e R turns;
+        shows = told_after d e R turns;
       })
       (record {
         fixed = fixed;

@@ -17,7 +17,7 @@ use Rattle.zd_volume.specs.declared.phase.Phase.{Phase}
 use Rattle.zd_volume.proofs.FailedCalls.{failed_with, kept_failed_call}
 use Rattle.zd_volume.proofs.FaultEntries.{faults_later}
 use Rattle.zd_volume.proofs.InPhases.{both_at, by_next, fixed_in, left_same, read_same, safe_now}
-use Rattle.zd_volume.proofs.Kept.{kept_call, told_before}
+use Rattle.zd_volume.proofs.Kept.{kept_call, told_after, told_before}
 use Rattle.zd_disk.proofs.SameSteps.{Same-trans}
 use Rattle.zd_disk.proofs.StepGrowth.{grows_by_flush}
 
@@ -49,6 +49,7 @@ module _ (v : PlainVolume) (opening d e : View) (runs : v.stopped ≡ None) (was
         calls = call.calls;
         grows = grows_by_flush call;
         from = told_before d e Same turns;
+        shows = told_after d e Same turns;
       })
       (record {
         fixed = fixed_in v opening d was q (next_count v.since) v.stopped phase;
@@ -94,6 +95,7 @@ module _ (v : PlainVolume) (opening d e : View) (runs : v.stopped ≡ None) (was
         calls = call.calls;
         grows = grows_by_flush call;
         from = told_before d e Same turns;
+        shows = told_after d e Same turns;
       }) rose all legal
       (λ k r i c le known w t. safe_now v opening d was v.phase k r c t le known.new_of
       (left_same v opening d was i c k le known.left_of w known.left_is))

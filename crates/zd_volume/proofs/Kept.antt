@@ -11,7 +11,7 @@ use Rattle.zd_disk.specs.OfGeometry.{IsImageOf}
 use Rattle.zd_disk.specs.View.{Turns, View}
 use Rattle.zd_disk.proofs.Moments.{two_moments}
 use Rattle.zd_disk.proofs.StepGrowth.{grows_more}
-use Rattle.zd_disk.proofs.ToldLaws.{Both-new, Some-same}
+use Rattle.zd_disk.proofs.ToldLaws.{Both-get, Both-new, Some-same}
 use Rattle.zd_volume.specs.Sets.{device_sectors}
 use Rattle.zd_volume.specs.Volumes.{IsKeptVolume, Known, Leads, MakesCall, PlainVolume, sets_of}
 
@@ -81,6 +81,7 @@ module _ (v w : PlainVolume) (opening u x : View) (step : Image → Image → Im
   pub kept_call : Leads v w (base_at opening.zones) opening u x step → IsKeptVolume w opening x
   kept_call leads = record {
     tells = told_now ∙ ap (λ (g : Shape). Some g) (sym did.geometry);
+    shows = λ o there. (let r = was.shows o there in did.shows r.0 r.1);
     fixed = leads.fixed;
     counted = record {
       few = (let b = did.since in let f = was.counted.few in omega arith);
@@ -134,8 +135,12 @@ module _ (v w : PlainVolume) (opening u x : View) (step : Image → Image → Im
         was.earlier (omega arith) r.0 r.1 k i before ((grown r.0 small r.1).only k i (omega arith) l);
   }
 
--- it was told before a call where it is told after it
+-- it was told before a call where it is told after it, and the other way round
 module _ (u x : View) where
   pub told_before : (R : Image → Image → Type 0) → Turns R u x → (j : Image) → x.zones ≡ Some j
       → (r : Image) × (u.zones ≡ Some r)
   told_before R turns j there = (let from = Both-new u.zones x.zones R j turns.reads there in (from.0, from.1))
+
+  pub told_after : (R : Image → Image → Type 0) → Turns R u x → (r : Image) → u.zones ≡ Some r
+      → (j : Image) × (x.zones ≡ Some j)
+  told_after R turns r there = (let on = Both-get u.zones x.zones R r turns.reads there in (on.0, on.1))

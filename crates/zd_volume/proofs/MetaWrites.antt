@@ -29,7 +29,7 @@ use Rattle.zd_volume.proofs.FaultEntries.{faults_later}
 use Rattle.zd_volume.proofs.Images.{left_step}
 use Rattle.zd_volume.proofs.InPhases.{both_at, by_next, fixed_in, pointers_stay, safe_now}
 use Rattle.zd_volume.proofs.JobLaws.{copies_stay}
-use Rattle.zd_volume.proofs.Kept.{kept_call, told_before}
+use Rattle.zd_volume.proofs.Kept.{kept_call, told_after, told_before}
 use Rattle.zd_volume.proofs.Reading.{read_step}
 
 -- which phase the write ends, and what it makes of each set
@@ -100,6 +100,7 @@ module _ (v : PlainVolume) (opening d e : View) (runs : v.stopped ≡ None) (was
         calls = call.calls;
         grows = grows_by_write z start bytes call;
         from = told_before d e (Wrote z start bytes) turns;
+        shows = told_after d e (Wrote z start bytes) turns;
       })
       (record {
         fixed = fixed_in v opening d was q (next_count v.since) v.stopped phase;
@@ -136,5 +137,6 @@ module _ (v : PlainVolume) (opening d e : View) (runs : v.stopped ≡ None) (was
         calls = call.calls;
         grows = grows_by_write z start bytes call;
         from = told_before d e (λ i. WriteStep i z start bytes i) turns;
+        shows = told_after d e (λ i. WriteStep i z start bytes i) turns;
       }) rose all legal
       (λ k r i c le known w t. safe_now v opening d was q k r c t le known.new_of (moved k r i c le known w))

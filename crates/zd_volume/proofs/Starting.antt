@@ -107,6 +107,7 @@ module _ (g : Shape) (head : Super) (bytes : List ℕ) (dirty : List Bool) (divi
     pub kept_start : IsKeptVolume (started g head bytes dirty division named pointers standings buffer) d d
     kept_start = record {
       tells = tells;
+      shows = λ r t. (r, t);
       fixed = fixed;
       counted = record {
         few = omega arith;

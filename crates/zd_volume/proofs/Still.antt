@@ -45,6 +45,7 @@ pub kept_still : (v w : PlainVolume) (opening u x : View) → StaysVolume v w �
     → LeadsStill v w (base_at opening.zones) opening u x → IsKeptVolume w opening x
 kept_still v w opening u x same io was leads = record {
   tells = io.stays.told v.geometry was.tells ∙ ap (λ (g : Shape). Some g) (sym same.geometry);
+  shows = λ o there. (let r = was.shows o there in (r.0, io.zones ∙ r.1));
   fixed = leads.fixed;
   counted = record {
     few = (let s = same.since in let f = was.counted.few in omega arith);

@@ -93,6 +93,8 @@ MayBe v base i = MayBeLeft v.phase (sets_of v) base v.history v.since i
 -- tells that now
 pub record IsKeptVolume (v : PlainVolume) (opening now : View) : Type 0 where
   pub tells : now.told ≡ Some v.geometry
+  -- the disk tells what it reads as where it did when opening ended
+  pub shows : WhereTold opening.zones (λ _. (i : Image) × (now.zones ≡ Some i))
   pub fixed : IsFixed v
   pub counted : CountsSince v opening.calls now.calls
   pub faulted : TellsFaults v.history v.stopped opening.faults now.faults
@@ -121,6 +123,7 @@ pub record MakesCall (v w : PlainVolume) (u x : View) (step : Image → Image �
   pub grows : x.calls < 2 ^ 64 - 1 → WhereTold u.zones (λ r.
       Grows u.calls u.left x.left (step r) (step r))
   pub from : (j : Image) → x.zones ≡ Some j → (r : Image) × (u.zones ≡ Some r)
+  pub shows : WhereTold u.zones (λ _. (j : Image) × (x.zones ≡ Some j))
 
 -- what is known before a call, of the image that the disk reads as and of one that a stop might
 -- leave; and that the image after it is one of the same geometry
