@@ -4,3 +4,4 @@ pub mod StartClasses
 pub mod StartValues
 pub mod DiscardSteps
 pub mod HeldZones
+pub mod ClosedLaws

@@ -3,8 +3,8 @@ use Rattle.std.specs.Prelude.{slice_get}
 use Rattle.std.specs.List.{AllByRecursion}
 use Rattle.zd_disk.proofs.ToldLaws.{Some-same}
 use Rattle.zd_model.specs.declared.requests.Request.{Request}
-use Rattle.zd_replay.specs.Reads.{IsFirstCallersRead}
-use Rattle.zd_replay.proofs.scripts.has_reads_alone.Goals as goal
+use Rattle.zd_replay.specs.Built.{IsBuiltRequest}
+use Rattle.zd_replay.proofs.scripts.are_built.Goals as goal
 
 -- one request more
 all_more : (P : Request → Type 0) (xs : List Request) (i : ℕ) (x : Request) → slice_get xs i ≡ Some x
@@ -17,4 +17,4 @@ all_more P (y ∷ ys) (suc i) x is h p =
 
 pub loop-i-preserved : goal.loop-i-preserved
 loop-i-preserved c =
-    all_more IsFirstCallersRead c.args.plan.now c.loop-i.i c.get.result.now c.get.ensures c.loop-i.invariant (c.if-not-is_read.ensures.0 refl)
+    all_more IsBuiltRequest c.args.plan.now c.loop-i.i c.get.result.now c.get.ensures c.loop-i.invariant (c.if-not-is_built.ensures.0 refl)
