@@ -1,32 +1,37 @@
 -- Which pieces of a plan are answered.
-use Rattle.std.proofs.Common.{◌≡◌, ◌≤◌, List, [], ◌∷◌, ◌++◌, map, sym, ap, ◌∙◌, subst, arith}
+use Rattle.std.proofs.Common.{◌≡◌, ◌≤◌, ◌-◌, ◌*◌, ◌^◌, ℕ, Option, Some, List, [], ◌∷◌, ◌++◌, map, sym, ap, ap₂, ◌∙◌, subst, arith}
+use Rattle.std.specs.Prelude.{IfErr, OnOk, Result, Ok, Err}
 use Rattle.std.proofs.lemmas.List.{append_assoc, append-nil, map-append}
 use Rattle.std.specs.List.{AllByRecursion}
 use Rattle.zd_alone.specs.Alone.{AnswersPieces, IsNoWrite, MayAsk, StopsAt, StopsRun}
 use Rattle.zd_base.specs.declared.numbers.Why.{Why}
+use Rattle.zd_commit.specs.Closed.{IsClosed, StopsClosing}
 use Rattle.zd_model.specs.History.{HistoryEntry, Mark, mark_of_entry, mark_of_piece}
+use Rattle.zd_model.specs.Pieces.{pieces_of}
 use Rattle.zd_model.specs.Plain.Answer.{Fault}
 use Rattle.zd_model.specs.Requests.{Moves, operation_of, sector_count}
 use Rattle.zd_model.specs.Script.{HasNumbers}
+use Rattle.zd_model.specs.declared.requests.Ending.{Ending}
 use Rattle.zd_model.specs.declared.requests.Piece.{Piece}
 use Rattle.zd_model.specs.declared.requests.Request.{Request}
 use Rattle.zd_model.specs.declared.requests.What.{What}
 use Rattle.zd_model.specs.declared.requests.What.TheVariants.{Read, Write, Discard, Flush, ReadSectors}
 use Rattle.zd_model.specs.declared.requests.What.TheVariants.{WriteSectors}
+use Rattle.zd_volume.specs.FaultCounts.{TellsFaults}
 use Rattle.zd_volume.specs.Flights.{answered}
 use Rattle.zd_volume.specs.Volumes.{PlainVolume}
-use Rattle.zd_replay.proofs.ClosingLaws.{SameAnswers}
+use Rattle.zd_replay.proofs.ClosingLaws.{SameAnswers, same_closed, same_unclosed}
 use Rattle.zd_replay.specs.Built.{IsBuiltPlan, IsBuiltRequest}
 use Rattle.zd_replay.specs.Run.{AnswersFirst, BeginsMarks, StopsFor, pieces_over}
 
 -- a request of a script that can be run is one that a caller may ask for
 some_sectors : (w : What) → HasNumbers w → Moves (operation_of w) → 1 ≤ sector_count w
 some_sectors (Read b n) h moves = (let some = h.some in omega arith)
-some_sectors (Write b n s) h moves = (let some = h.some in omega arith)
+some_sectors (Write b n s) h moves = (let some = h.0.some in omega arith)
 some_sectors (Discard b n) h moves = (let some = h.some in omega arith)
 some_sectors Flush h moves = absurd moves
 some_sectors (ReadSectors b n) h moves = h.some
-some_sectors (WriteSectors b n s) h moves = h.some
+some_sectors (WriteSectors b n s) h moves = h.0.some
 
 each_may : (plan : List Request) → AllByRecursion (λ (r : Request). HasNumbers r.what) plan
     → AllByRecursion IsBuiltRequest plan → AllByRecursion (λ (r : Request). MayAsk r.what) plan
@@ -38,6 +43,13 @@ each_may (r ∷ plan) numbers built = (
 
 pub plan_may : (plan : List Request) → IsBuiltPlan plan → AllByRecursion (λ (r : Request). MayAsk r.what) plan
 plan_may plan p = each_may plan p.1.script.lines.numbers p.1.built
+
+-- the pieces that are cut by these numbers
+pub these_pieces : (plan : List Request) (from : PlainVolume) (pieces : List Piece) (z chunks blocks : ℕ)
+    → z ≡ from.geometry.zone_blocks → chunks ≡ from.head.layout.chunks → blocks ≡ z
+    → pieces ≡ pieces_of z (chunks * blocks) plan → pieces ≡ pieces_over from plan
+these_pieces plan from pieces z chunks blocks size count same is =
+    is ∙ ap₂ (λ (b n : ℕ). pieces_of b n plan) size (ap₂ (λ (a b : ℕ). a * b) count (same ∙ size))
 
 module _ (plan : List Request) (from : PlainVolume) (new : from.history ≡ []) where
   -- nothing is answered yet
@@ -118,7 +130,7 @@ module _ (plan : List Request) (from : PlainVolume) (new : from.history ≡ []) 
         )
 
 -- a volume with the same answers
-pub same_first : (plan : List Request) (from mid to : PlainVolume) → AnswersFirst plan from mid → SameAnswers mid to
+same_first : (plan : List Request) (from mid to : PlainVolume) → AnswersFirst plan from mid → SameAnswers mid to
     → AnswersFirst plan from to
 same_first plan from mid to first same = record {
   marks = subst (λ (h : List HistoryEntry).
@@ -127,10 +139,42 @@ same_first plan from mid to first same = record {
 }
 
 -- all pieces come first, and none after them
-pub all_first : (plan : List Request) (from to : PlainVolume)
+all_first : (plan : List Request) (from to : PlainVolume)
     → map mark_of_entry to.history ≡ map mark_of_piece (pieces_over from plan)
     → to.opening_generation ≡ from.opening_generation → AnswersFirst plan from to
 all_first plan from to all opening = record {
   marks = ([], sym all ∙ sym (append-nil (map mark_of_entry to.history)));
   opening = opening;
 }
+
+-- all pieces are answered, and the volume is closed, or closing stopped it
+pub closed_first : {T : Type 0} (plan : List Request) (from mid to : PlainVolume) (pieces : List Piece)
+    → from.history ≡ [] → pieces ≡ pieces_over from plan → AnswersPieces from mid pieces → (r : Result T Why)
+    → OnOk r (IsClosed mid to) → IfErr r (StopsClosing mid to) → AnswersFirst plan from to
+closed_first plan from mid to pieces new is answers (Ok x) closed stops =
+    same_first plan from mid to (all_first plan from mid (all_marks plan from new pieces is mid answers) answers.opening)
+    (same_closed mid to closed)
+closed_first plan from mid to pieces new is answers (Err why) closed stops =
+    same_first plan from mid to (all_first plan from mid (all_marks plan from new pieces is mid answers) answers.opening)
+    (same_unclosed mid to why stops).0
+
+-- what a volume tells of faults, said of a run that ended for this cause
+pub faults_of : (history : List HistoryEntry) (stopped why : Option Why) (before now : ℕ)
+    → (why ≡ Some Why.Device → stopped ≡ Some Why.Device)
+    → TellsFaults history stopped before now → TellsFaults history why before now
+faults_of history stopped why before now same tells = record {
+  later = tells.later;
+  told = tells.told;
+  cause = λ small is. tells.cause small (same is);
+}
+
+pub stopped_device : (why : Why) (v : PlainVolume) → why ≡ Why.Device → StopsFor why v → v.stopped ≡ Some Why.Device
+stopped_device why v is stops = subst (λ (w : Why). StopsFor w v) is stops
+
+pub stopped_generation : (why : Why) (v : PlainVolume)
+    → ◌≡◌ {A = Ending} (Ending.Stopped why) (Ending.Stopped Why.Generation) → StopsFor why v
+    → v.head.generation ≡ 2 ^ 64 - 1
+stopped_generation why v is stops = subst (λ (w : Why). StopsFor w v) (same why is) stops
+  where
+    same : (w : Why) → ◌≡◌ {A = Ending} (Ending.Stopped w) (Ending.Stopped Why.Generation) → w ≡ Why.Generation
+    same w e = cc

@@ -61,11 +61,11 @@ module _ (stage : RunStage) (outcome : Outcome) (early : stage_order stage < 3) 
 pub unread_leaves : (stage : RunStage) (outcome : Outcome) (u : View) → stage_order stage < 2
     → LeavesOpening stage outcome u.calls u u
 unread_leaves stage outcome u early =
-    ended_leaves stage outcome (omega (arith, early)) {u} {u} unused_way (way_keeps unused_way)
+    ended_leaves stage outcome (omega (arith, early)) {u = u} {v = u} unused_way (way_keeps unused_way)
     (λ twice. record { left = λ small image there k i from until can. absurd (omega (arith, from, until)) })
 
 -- A RUN OVER A VOLUME that was opened, from u to w, and whose disk tells x now
-module _ {u w x : View} (order : w.calls ≤ x.calls)
+module _ (u w x : View) (order : w.calls ≤ x.calls)
     (shows : WhereTold u.zones (λ _. (i : Image) × (x.zones ≡ Some i)))
     (earlier : x.calls < 2 ^ 64 - 1 → WhereTold x.zones (λ _.
     (k : ℕ) (i : Image) → k < w.calls → x.left k i → w.left k i)) where

@@ -8,7 +8,7 @@ ghost use Rattle.zd_replay.specs.Run.{AnswersAll, AnswersFirst, RunsPlan, StopsF
 
 use std::alloc::Global;
 use zd_alone::run;
-use zd_base::Why;
+use zd_base::{Memory, Why};
 use zd_commit::close;
 use zd_disk::ZonedDisk;
 use zd_plain::{Ending, Plan, pieces};
@@ -30,8 +30,12 @@ fn answer_all<D: ZonedDisk>(alloc: Global, v: &mut Volume<D>, plan: &Plan) -> Re
     v.sound();
     let zone_blocks = v.geometry().zone_blocks();
     let blocks = u64::from(v.layout().chunks) * u64::from(zone_blocks);
-    let pieces = pieces(alloc, plan, zone_blocks, blocks).map_err(|_| Why::Memory)?;
-    v.reserve(pieces.len(), 0).map_err(|_| Why::Memory)?;
+    let Ok(pieces) = pieces(alloc, plan, zone_blocks, blocks) else {
+        return Err(Why::Memory);
+    };
+    if let Err(Memory) = v.reserve(pieces.len(), 0) {
+        return Err(Why::Memory);
+    }
     run(v, alloc, &pieces)?;
     close(v)
 }
