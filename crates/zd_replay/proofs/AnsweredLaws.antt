@@ -3,7 +3,7 @@ use Rattle.std.proofs.Common.{◌≡◌, ◌≤◌, ◌-◌, ◌*◌, ◌^◌, �
 use Rattle.std.specs.Prelude.{IfErr, OnOk, Result, Ok, Err}
 use Rattle.std.proofs.lemmas.List.{append_assoc, append-nil, map-append}
 use Rattle.std.specs.List.{AllByRecursion}
-use Rattle.zd_alone.specs.Alone.{AnswersPieces, IsNoWrite, MayAsk, StopsAt, StopsRun}
+use Rattle.zd_alone.specs.Alone.{AnswersPieces, MayAsk, StopsAt, StopsRun}
 use Rattle.zd_base.specs.declared.numbers.Why.{Why}
 use Rattle.zd_commit.specs.Closed.{IsClosed, StopsClosing}
 use Rattle.zd_model.specs.History.{HistoryEntry, Mark, mark_of_entry, mark_of_piece}

@@ -12,7 +12,7 @@ use Rattle.zd_tell.specs.Stages.RunStage.{Words, Script, Opening, Run}
 use Rattle.zd_tell.specs.Telling.{HasStatus, TellsMessage}
 use Rattle.zd_tell.proofs.StageLaws.{told_may_end}
 use Rattle.zd_tell.proofs.TellLaws.{own_status}
-use Rattle.zd_replay.specs.Ends.{EachStatusTells, EndsOpening, EndsRun, EndsScript, IsFixedRun, ReplayCameTo, ReplayComes, ReplayEndedBefore, ReplayMayEnd, all_done, no_device, no_generation, no_memory, replay_telling}
+use Rattle.zd_replay.specs.Ends.{EachStatusTells, EndsOpening, EndsRun, EndsScript, IsFixedRun, ReplayComes, ReplayEndedBefore, ReplayMayEnd, all_done, no_device, no_generation, no_memory, replay_telling}
 
 -- the outcome that has a status of its own
 pub usage_by : (o : Outcome) → outcome_status o ≡ 1 → o ≡ outcomes.Usage

@@ -1,9 +1,9 @@
 -- What a stop leaves of a disk until opening ends.
-use Rattle.std.proofs.Common.{◌≡◌, ℕ, ◌+◌, ◌-◌, ◌^◌, ◌<◌, ◌≤◌, Some, sym, ap, ◌∙◌, subst, arith}
+use Rattle.std.proofs.Common.{◌≡◌, ℕ, ◌+◌, ◌-◌, ◌^◌, ◌<◌, ◌≤◌, Some, ap, arith}
 use Rattle.zd_disk.specs.Told.{WhereTold}
 use Rattle.zd_disk.specs.View.{Keeps, ReachesBy, View}
 use Rattle.zd_disk.proofs.ViewLaws.{turned}
-use Rattle.zd_examine.specs.Opened.{IsKept, IsLeftOrKept, IsOpening, KeepsFrom, open_calls}
+use Rattle.zd_examine.specs.Opened.{IsKept, IsLeftOrKept, IsOpening, KeepsFrom}
 use Rattle.zd_examine.specs.declared.examining.Image.{Image as Volume}
 use Rattle.zd_examine.proofs.LeftLaws.{unused_way, way_keeps}
 use Rattle.zd_model.specs.Image.{Image}

@@ -80,7 +80,7 @@ closed_left v opening now kept runs idle same durable small r there i can =
     } in
     let equal = durable.left small r there i can in
     let reads = subst (λ (p : Phase). ReadsAs p (sets_of v) (base_at opening.zones) v.history r) idle
-        (kept.reads runs r there).read in
+    (kept.reads runs r there).read in
     closed_image (sets_of v) kept.fixed.sets same (base_at opening.zones) v.history i of (kept.based r there)
     (read_stays (sets_of v) kept.fixed.sets Idle (base_at opening.zones) v.history r i of_r
     (sets_same (sets_of v) kept.fixed.sets r i of_r equal) (data_same (sets_of v) kept.fixed.sets r i equal) reads)
