@@ -53,6 +53,7 @@ pub record AnswersPieces (from to : PlainVolume) (pieces : List Piece) : Type 0 
   pub history : to.history ≡ from.history ++ entries
   pub marks : map mark_of_entry entries ≡ map mark_of_piece pieces
   pub device : SameDevice from to
+  pub opening : to.opening_generation ≡ from.opening_generation
 
 -- a piece is entered now with some reply, and all else is as it was
 pub record EntersPiece (from to : PlainVolume) (p : Piece) : Type 0 where

@@ -12,7 +12,7 @@ use Rattle.zd_tell.specs.Stages.RunStage.{Words, Script, Opening, Run}
 use Rattle.zd_tell.specs.Telling.{HasStatus, TellsMessage}
 use Rattle.zd_tell.proofs.StageLaws.{told_may_end}
 use Rattle.zd_tell.proofs.TellLaws.{own_status}
-use Rattle.zd_replay.specs.Ends.{EachStatusTells, EndsOpening, EndsRun, EndsScript, IsFixedRun, ReplayCameTo, ReplayComes, ReplayEndedBefore, ReplayMayEnd, all_done, no_device, no_memory, replay_telling}
+use Rattle.zd_replay.specs.Ends.{EachStatusTells, EndsOpening, EndsRun, EndsScript, IsFixedRun, ReplayComes, ReplayEndedBefore, ReplayMayEnd, all_done, no_device, no_generation, no_memory, replay_telling}
 
 -- the outcome that has a status of its own
 pub usage_by : (o : Outcome) → outcome_status o ≡ 1 → o ≡ outcomes.Usage
@@ -84,18 +84,24 @@ pub told_device : {status : ℕ} (o : Outcome) → HasStatus (outcome_status o) 
     → o ≡ no_device
 told_device o is four = device_by o (own_status is (λ e. omega (arith, e, four)) (λ e. omega (arith, e, four)) ∙ four)
 
--- in which stages all may be done, and the disk may have failed
+-- in which stages all may be done, the disk may have failed, and no generation may be left
 pub done_at : (stage : RunStage) → ReplayComes stage all_done → stage ≡ Run
 done_at Words is = let f = ap outcome_status is in absurd (omega (arith, f))
 done_at Script none = absurd none
 done_at Opening none = absurd none
 done_at Run is = refl
 
-pub device_at : (stage : RunStage) → ReplayComes stage no_device → stage ≡ Opening
+pub device_at : (stage : RunStage) → ReplayComes stage no_device → 2 ≤ stage_order stage
 device_at Words is = let f = ap outcome_status is in absurd (omega (arith, f))
 device_at Script none = absurd none
-device_at Opening is = refl
-device_at Run none = absurd none
+device_at Opening is = omega arith
+device_at Run is = omega arith
+
+pub generation_at : (stage : RunStage) → ReplayComes stage no_generation → stage ≡ Run
+generation_at Words is = let f = ap outcome_status is in absurd (omega (arith, f))
+generation_at Script none = absurd none
+generation_at Opening none = absurd none
+generation_at Run is = refl
 
 pub source_at : (stage : RunStage) → ReplayComes stage outcomes.Source → stage ≡ Script
 source_at Words is = let f = ap outcome_status is in absurd (omega (arith, f))
@@ -161,19 +167,21 @@ opening_status outcomes.NotBuilt e has = absurd e
 opening_status (outcomes.Ended endings.Ok) e has = absurd e
 opening_status (outcomes.Ended (endings.Stopped whys.Generation)) e has = absurd e
 
-run_status : {status : ℕ} (o : Outcome) → EndsRun o → HasStatus (outcome_status o) status → (status ≡ 0) ⊎
-    ((status ≡ 6) ⊎ (status ≡ 7))
+pub run_status : {status : ℕ} (o : Outcome) → EndsRun o → HasStatus (outcome_status o) status → (status ≡ 0) ⊎
+    ((status ≡ 6) ⊎ ((status ≡ 7) ⊎ ((status ≡ 4) ⊎ (status ≡ 8))))
 run_status (outcomes.Ended endings.Ok) e (inl is) = inl is
 run_status (outcomes.Ended endings.Ok) e (inr six) = inr (inl six.0)
-run_status (outcomes.Ended (endings.Stopped whys.Memory)) e (inl is) = inr (inr is)
+run_status (outcomes.Ended (endings.Stopped whys.Memory)) e (inl is) = inr (inr (inl is))
 run_status (outcomes.Ended (endings.Stopped whys.Memory)) e (inr six) = absurd (omega (arith, six.1))
+run_status (outcomes.Ended (endings.Stopped whys.Device)) e (inl is) = inr (inr (inr (inl is)))
+run_status (outcomes.Ended (endings.Stopped whys.Device)) e (inr six) = absurd (omega (arith, six.1))
+run_status (outcomes.Ended (endings.Stopped whys.Generation)) e (inl is) = inr (inr (inr (inr is)))
+run_status (outcomes.Ended (endings.Stopped whys.Generation)) e (inr six) = absurd (omega (arith, six.1))
 run_status outcomes.Usage e has = absurd e
 run_status outcomes.Source e has = absurd e
 run_status (outcomes.BadScript line why) e has = absurd e
 run_status outcomes.NotBuilt e has = absurd e
 run_status (outcomes.NoVolume kind) e has = absurd e
-run_status (outcomes.Ended (endings.Stopped whys.Device)) e has = absurd e
-run_status (outcomes.Ended (endings.Stopped whys.Generation)) e has = absurd e
 
 -- no status is one of the script and of what comes later
 apart : {status : ℕ} → (status ≡ 2) ⊎ ((status ≡ 5) ⊎ ((status ≡ 7) ⊎ (status ≡ 11)))
@@ -192,22 +200,38 @@ early_other Opening early m = absurd (omega (arith, early))
 early_other Run early m = absurd (omega (arith, early))
 
 early : {status : ℕ} → (status ≡ 1) ⊎ (status ≡ 2) ⊎ (status ≡ 5) ⊎ (status ≡ 11)
-    → (status ≡ 0) ⊎ ((status ≡ 3) ⊎ ((status ≡ 4) ⊎ ((status ≡ 6) ⊎ (status ≡ 7)))) → ⊥
+    → (status ≡ 0) ⊎ ((status ≡ 3) ⊎ ((status ≡ 4) ⊎ ((status ≡ 6) ⊎ ((status ≡ 7) ⊎ (status ≡ 8))))) → ⊥
 early e s = grind arith
 
 late : {status : ℕ} (stage : RunStage) → 2 ≤ stage_order stage → ReplayMayEnd stage status
-    → (status ≡ 0) ⊎ ((status ≡ 3) ⊎ ((status ≡ 4) ⊎ ((status ≡ 6) ⊎ (status ≡ 7))))
+    → (status ≡ 0) ⊎ ((status ≡ 3) ⊎ ((status ≡ 4) ⊎ ((status ≡ 6) ⊎ ((status ≡ 7) ⊎ (status ≡ 8)))))
 late Words past m = absurd (omega (arith, past))
 late Script past m = absurd (omega (arith, past))
 late Opening past m = (let s = opening_status m.0 m.1 m.2 in grind (arith, s))
 late Run past m = (let s = run_status m.0 m.1 m.2 in grind (arith, s))
 
-before_run : {status : ℕ} (stage : RunStage) → stage_order stage < 3 → ReplayMayEnd stage status → (status ≡ 0) ⊎
-    (status ≡ 6) → ⊥
-before_run Words less m e = not_one (words_status m) (elim e [ inl z ↦ inl z | inr s ↦ inr (inr (inr s)) ])
-before_run Script less m e = apart (script_status m.0 m.1 m.2) (elim e [ inl z ↦ inl z | inr s ↦ inr (inr (inr s)) ])
-before_run Opening less m e = (let s = opening_status m.0 m.1 m.2 in grind (arith, s, e))
+-- one that tells of the run isn't one of a run that ended before
+not_early : {status : ℕ} → (status ≡ 2) ⊎ ((status ≡ 5) ⊎ ((status ≡ 7) ⊎ (status ≡ 11)))
+    → (status ≡ 0) ⊎ (status ≡ 6) ⊎ (status ≡ 8) → ⊥
+not_early s e = grind arith
+
+not_usage : {status : ℕ} → status ≡ 1 → (status ≡ 0) ⊎ (status ≡ 6) ⊎ (status ≡ 8) → ⊥
+not_usage one e = grind arith
+
+not_opening : {status : ℕ} → (status ≡ 3) ⊎ ((status ≡ 4) ⊎ (status ≡ 7))
+    → (status ≡ 0) ⊎ (status ≡ 6) ⊎ (status ≡ 8) → ⊥
+not_opening s e = grind arith
+
+before_run : {status : ℕ} (stage : RunStage) → stage_order stage < 3 → ReplayMayEnd stage status
+    → (status ≡ 0) ⊎ (status ≡ 6) ⊎ (status ≡ 8) → ⊥
+before_run Words less m e = not_usage (words_status m) e
+before_run Script less m e = not_early (script_status m.0 m.1 m.2) e
+before_run Opening less m e = not_opening (opening_status m.0 m.1 m.2) e
 before_run Run less m e = absurd (omega (arith, less))
+
+-- a run that came to its last stage has no status of a refusal
+pub ran_unrefused : {status : ℕ} → ReplayMayEnd Run status → status ≡ 3 → ⊥
+ran_unrefused m three = (let s = run_status m.0 m.1 m.2 in grind (arith, s, three))
 
 -- where it isn't before, it is from there on
 from_there : {m n : ℕ} → (m < n → ⊥) → n ≤ m
@@ -222,11 +246,6 @@ statuses_tell status = record {
   opening = λ e s m. from_there (λ less. early_other s less m (elim e [ inl three ↦ inr (inl three) | inr four ↦ inr (inr (inl four)) ]));
   before = λ e s m. below_there (λ past. early e (late s past m));
 }
-
--- a status that tells that a run came to its last stage is none of a run that ended before
-pub not_come : {status : ℕ} (stage : RunStage) → stage_order stage < 3 → ReplayMayEnd stage status
-    → ReplayCameTo Run status → ⊥
-not_come stage less m come = let most = come stage m in omega arith
 
 -- a run that came to opening didn't end before
 pub not_before : {status : ℕ} → ReplayMayEnd Opening status ⊎ ReplayMayEnd Run status

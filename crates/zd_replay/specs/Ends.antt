@@ -22,7 +22,7 @@ use Rattle.zd_script.specs.declared.fault.ScriptFault.TheVariants as scripts
 use Rattle.zd_tell.specs.Stages.{CameTo, CausesExclude, Course, EndedBefore, EndsIn, MayEnd, RunStage, stage_order}
 use Rattle.zd_tell.specs.Stages.RunStage.{Words, Script, Opening, Run}
 use Rattle.zd_tell.specs.Telling.{Telling}
-use Rattle.zd_replay.specs.Reads.{IsScriptOfReads, IsOtherScript}
+use Rattle.zd_replay.specs.Built.{IsBuiltScript, IsUnbuiltScript}
 use Rattle.zd_replay.specs.Words.{is_command}
 
 -- the words are a command
@@ -31,7 +31,7 @@ IsReplayCommand words = IsTrue (is_command words)
 
 -- the bytes are a script that can be run
 abbrev pub IsRunnable : List ℕ → Type 0
-IsRunnable bytes = (plan : List Request) × IsScriptOfReads bytes plan
+IsRunnable bytes = (plan : List Request) × IsBuiltScript bytes plan
 
 -- the answer of opening that tells so
 abbrev pub fault_of : NoVolume → OpenFault
@@ -46,6 +46,10 @@ no_memory = outcomes.Ended (endings.Stopped whys.Memory)
 
 abbrev pub no_device : Outcome
 no_device = outcomes.Ended (endings.Stopped whys.Device)
+
+-- how a run ends where a commit was due and there was no next generation
+abbrev pub no_generation : Outcome
+no_generation = outcomes.Ended (endings.Stopped whys.Generation)
 
 abbrev pub all_done : Outcome
 all_done = outcomes.Ended endings.Ok
@@ -65,8 +69,7 @@ EndsOpening (outcomes.Ended (endings.Stopped whys.Memory)) = Unit {0}
 EndsOpening outcome = ⊥
 
 abbrev pub EndsRun : Outcome → Type 0
-EndsRun (outcomes.Ended endings.Ok) = Unit {0}
-EndsRun (outcomes.Ended (endings.Stopped whys.Memory)) = Unit {0}
+EndsRun (outcomes.Ended ending) = Unit {0}
 EndsRun outcome = ⊥
 
 abbrev pub ReplayComes : RunStage → Outcome → Type 0
@@ -89,7 +92,7 @@ ReplayCause words left zones outcomes.Usage = IsReplayCommand words → ⊥
 ReplayCause words left zones (outcomes.BadScript line why) =
     WhereTold left (λ bytes. RefusesScript bytes line why)
 ReplayCause words left zones outcomes.NotBuilt =
-    WhereTold left (λ bytes. (plan : List Request) × IsOtherScript bytes plan)
+    WhereTold left (λ bytes. (plan : List Request) × IsUnbuiltScript bytes plan)
 ReplayCause words left zones (outcomes.NoVolume kind) = WhereTold zones (ExplainsRefusal (fault_of kind))
 ReplayCause words left zones outcome = Unit {0}
 
@@ -168,10 +171,10 @@ script_outcome (scripts.Bad line why) = outcomes.BadScript line why
 script_outcome scripts.Source = outcomes.Source
 script_outcome scripts.Memory = no_memory
 
--- What statuses tell of the stages: 0 and 6 that the run came to its last one, 3 and 4 that it came to
+-- What statuses tell of the stages: 0, 6 and 8 that the run came to its last one, 3 and 4 that it came to
 -- opening, 1, 2, 5 and 11 that it ended before. 7 tells none.
 pub record StatusesTell (status : ℕ) : Type 0 where
-  pub run : (status ≡ 0) ⊎ (status ≡ 6) → ReplayCameTo Run status
+  pub run : (status ≡ 0) ⊎ (status ≡ 6) ⊎ (status ≡ 8) → ReplayCameTo Run status
   pub opening : (status ≡ 3) ⊎ (status ≡ 4) → ReplayCameTo Opening status
   pub before : (status ≡ 1) ⊎ (status ≡ 2) ⊎ (status ≡ 5) ⊎ (status ≡ 11) →
       ReplayEndedBefore Opening status

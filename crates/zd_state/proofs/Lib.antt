@@ -10,3 +10,4 @@ pub mod EdgeSteps
 pub mod MapSteps
 pub mod WriteSteps
 pub mod PromotionSteps
+pub mod ClosedLaws

@@ -1,3 +1,4 @@
 pub mod Seen
 pub mod Started
 pub mod Puts
+pub mod ClosedImages

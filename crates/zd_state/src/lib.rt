@@ -2,6 +2,7 @@
 #![tactic(auto)]
 
 mod classes;
+mod closed;
 mod commit;
 mod discards;
 mod entering;
