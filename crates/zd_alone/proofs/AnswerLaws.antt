@@ -3,7 +3,6 @@ use Rattle.std.proofs.Common.{◌≡◌, ℕ, ◌+◌, ◌*◌, ◌/◌, ◌%◌
 use Rattle.std.proofs.Common.{suc, length, take, drop, get_or, sym, ap, ◌∙◌, subst}
 use Rattle.std.proofs.lemmas.List.{take-append-drop}
 use Rattle.std.proofs.Math.Seq.{drop-cons}
-use Rattle.zd_base.specs.declared.numbers.Why.{Why}
 use Rattle.zd_base.specs.Geometry.{Shape, zone_sectors}
 use Rattle.zd_base.specs.declared.layout.Layout.{Layout}
 use Rattle.zd_model.specs.Plain.{ends_past}
@@ -14,6 +13,7 @@ use Rattle.zd_volume.specs.Discards.{chunk_touched, range_end}
 use Rattle.zd_volume.specs.Volumes.{PlainVolume}
 use Rattle.zd_alone.specs.Alone.{AnswersPieces, CanAnswer, CanAnswerBy, CanAnswerIn, IsAtRest}
 use Rattle.zd_alone.specs.Alone.{SameDevice, StopsAt, StopsRun}
+use Rattle.zd_alone.specs.declared.halt.Halt.{Halt}
 
 -- WHAT CAN BE ANSWERED depends on the device alone
 module _ (from to : PlainVolume) (same : SameDevice from to) (p : Piece) where
@@ -31,7 +31,12 @@ module _ (from to : PlainVolume) (same : SameDevice from to) (p : Piece) where
     chunk = move (λ (g : Shape) (l : Layout).
         first_sector p.what % zone_sectors g + sector_count p.what ≤ zone_sectors g) can.chunk;
   }
-  can_in Writing can = absurd can
+  can_in Writing can = record {
+    writes = can.writes;
+    some = can.some;
+    inside = move (λ (g : Shape) (l : Layout). range_end g.zone_blocks p.what ≤ g.zone_blocks) can.inside;
+    there = move (λ (g : Shape) (l : Layout). chunk_touched g.zone_blocks p.what < l.chunks) can.there;
+  }
   can_in Discarding can = record {
     discards = can.discards;
     inside = move (λ (g : Shape) (l : Layout). range_end g.zone_blocks p.what ≤ g.zone_blocks) can.inside;
@@ -47,11 +52,11 @@ module _ (from to : PlainVolume) (same : SameDevice from to) (p : Piece) where
   can_still can = can_by p.range can
 
 -- a run that stops at piece k, after the first k
-pub stops_run : (from last to : PlainVolume) (pieces : List Piece) (k : ℕ) (d : Piece) (why : Why)
+pub stops_run : (from last to : PlainVolume) (pieces : List Piece) (k : ℕ) (d : Piece) (halt : Halt)
     → k < length pieces → AnswersPieces from last (take k pieces) → IsAtRest last
-    → StopsAt last to (get_or pieces k d) why
-    → StopsRun from to pieces why
-stops_run from last to pieces k d why inside answers ready stops = record {
+    → StopsAt last to (get_or pieces k d) halt
+    → StopsRun from to pieces halt
+stops_run from last to pieces k d halt inside answers ready stops = record {
   done = take k pieces;
   piece = get_or pieces k d;
   rest = drop (suc k) pieces;

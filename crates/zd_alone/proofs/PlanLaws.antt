@@ -1,4 +1,4 @@
--- The pieces that a plan without writes is cut into can be answered.
+-- The pieces that a plan is cut into can be answered.
 use Rattle.std.proofs.Common.{◌≡◌, ℕ, ◌+◌, ◌*◌, ◌/◌, ◌%◌, ◌<◌, ◌≤◌, Bool, true, false, List, [], ◌∷◌, map}
 use Rattle.std.proofs.Common.{refl, sym, ap, ◌∙◌, subst, arith}
 use Rattle.std.proofs.Math.Arith.{mod-mul}
@@ -8,7 +8,7 @@ use Rattle.zd_base.specs.Layout.{device_blocks}
 use Rattle.zd_model.specs.Cut.{IsCut}
 use Rattle.zd_model.specs.Pieces.{chunks_touched, part_of, parts_of, piece_of, pieces_of, pieces_of_request}
 use Rattle.zd_model.specs.Plain.{ends_past}
-use Rattle.zd_model.specs.Requests.{Moves, Operation, at_sectors, first_sector, operation_of, sector_count}
+use Rattle.zd_model.specs.Requests.{Moves, Operation, first_sector, operation_of, sector_count}
 use Rattle.zd_model.specs.Requests.Operation.{Reading, Writing, Discarding, Flushing}
 use Rattle.zd_model.specs.declared.requests.Piece.{Piece}
 use Rattle.zd_model.specs.declared.requests.Request.{Request}
@@ -18,20 +18,11 @@ use Rattle.zd_model.specs.declared.requests.What.TheVariants.{WriteSectors}
 use Rattle.zd_model.proofs.ArrayLaws.{ends_inside, ends_within}
 use Rattle.zd_model.proofs.CutLaws.{cut_up, in_one_chunk, parts_cut, parts_past, parts_within}
 use Rattle.zd_model.proofs.SectorLaws.{each-append}
-use Rattle.zd_volume.specs.Discards.{range_end}
+use Rattle.zd_volume.specs.Discards.{chunk_touched, range_end}
 use Rattle.zd_volume.specs.Flights.{chunk_of}
 use Rattle.zd_volume.specs.Sets.{AreSets, device_sectors}
 use Rattle.zd_volume.specs.Volumes.{PlainVolume, sets_of}
-use Rattle.zd_alone.specs.Alone.{CanAnswer, CanAnswerBy, CanAnswerIn, IsNoWrite, MayAsk}
-
--- a part asks for the same operation
-same_operation : (w : What) (first n : ℕ) → operation_of (at_sectors w first n) ≡ operation_of w
-same_operation (Read b c) first n = refl
-same_operation (Write b c s) first n = refl
-same_operation (Discard b c) first n = refl
-same_operation Flush first n = refl
-same_operation (ReadSectors b c) first n = refl
-same_operation (WriteSectors b c s) first n = refl
+use Rattle.zd_alone.specs.Alone.{CanAnswer, CanAnswerBy, CanAnswerIn, MayAsk}
 
 module _ (v : PlainVolume) (are : AreSets (sets_of v)) where
   abbrev z : ℕ
@@ -64,24 +55,33 @@ module _ (v : PlainVolume) (are : AreSets (sets_of v)) where
       (div-lt_iff_lt-mul {k = 8 * z} {x = first_sector w} {y = v.head.layout.chunks}
       (omega (arith, least))).1 (omega (arith, whole, some, fits))
 
+  touched_in_device : (w : What) → 1 ≤ sector_count w → first_sector w + sector_count w ≤ 8 * blocks
+      → chunk_touched z w < v.head.layout.chunks
+  touched_in_device w some fits =
+      subst (λ (n : ℕ). n < v.head.layout.chunks) (sym (div-div-eq-div-mul (first_sector w) 8 z))
+      (begins_in_device w some fits)
+
   -- a part in the device, of one chunk
-  part_can : (p : Piece) (o : Operation) → p.range ≡ false → operation_of p.what ≡ o → IsNoWrite o
-      → 1 ≤ sector_count p.what → first_sector p.what % (8 * z) + sector_count p.what ≤ 8 * z
+  part_can : (p : Piece) (o : Operation) → p.range ≡ false → operation_of p.what ≡ o → 1 ≤ sector_count p.what → first_sector p.what % (8 * z) + sector_count p.what ≤ 8 * z
       → first_sector p.what + sector_count p.what ≤ 8 * blocks → CanAnswerIn v p o
-  part_can p Reading range is no_write some inside fits = record {
+  part_can p Reading range is some inside fits = record {
     range = range;
     some = some;
     device = begins_in_device p.what some fits;
     chunk = inside;
   }
-  part_can p Writing range is no_write some inside fits = absurd no_write
-  part_can p Discarding range is no_write some inside fits = record {
+  part_can p Writing range is some inside fits = record {
+    writes = is;
+    some = some;
+    inside = ends_in_chunk p.what inside;
+    there = touched_in_device p.what some fits;
+  }
+  part_can p Discarding range is some inside fits = record {
     discards = is;
     inside = ends_in_chunk p.what inside;
-    there = subst (λ (n : ℕ). n < v.head.layout.chunks)
-        (sym (div-div-eq-div-mul (first_sector p.what) 8 z)) (begins_in_device p.what some fits);
+    there = touched_in_device p.what some fits;
   }
-  part_can p Flushing range is no_write some inside fits = tt
+  part_can p Flushing range is some inside fits = tt
 
   -- a part as a piece, marked so
   abbrev piece : Request → ℕ → Bool → ℕ × What → Piece
@@ -89,39 +89,37 @@ module _ (v : PlainVolume) (are : AreSets (sets_of v)) where
       record { caller = r.caller; request = number; piece = part.0; what = part.1; range = past }
 
   -- the parts of a cut that ends inside the device
-  cut_can : (r : Request) (number k from to : ℕ) (is : List ℕ) → IsNoWrite (operation_of r.what)
-      → to ≤ 8 * blocks
+  cut_can : (r : Request) (number k from to : ℕ) (is : List ℕ) → to ≤ 8 * blocks
       → IsCut z from to (map (part_of z r.what) is)
       → AllByRecursion (CanAnswer v)
       (map (piece r number false) (enumerate_from k (map (part_of z r.what) is)))
-  cut_can r number k from to [] no_write fits cut = tt
-  cut_can r number k from to (i ∷ is) no_write fits cut =
+  cut_can r number k from to [] fits cut = tt
+  cut_can r number k from to (i ∷ is) fits cut =
       let part : What = part_of z r.what i in
-      let same : operation_of part ≡ operation_of r.what = same_operation r.what _ _ in
       let up = cut_up z (from + sector_count part) to (map (part_of z r.what) is) cut.3 in (
         part_can (piece r number false (k, part)) (operation_of part) refl refl
-            (subst IsNoWrite (sym same) no_write) cut.1
+            cut.1
             (subst (λ (n : ℕ). n % (8 * z) + sector_count part ≤ 8 * z) (sym cut.0)
             (in_one_chunk (8 * z) from (sector_count part)
             (let least = some_blocks in omega (arith, least)) cut.1 cut.2))
             (let first = cut.0 in omega (arith, first, up, fits)),
-        cut_can r number (k + 1) (from + sector_count part) to is no_write fits cut.3,
+        cut_can r number (k + 1) (from + sector_count part) to is fits cut.3,
       )
 
   -- a request that moves sectors, by whether it ends past the device
   moving_can : (r : Request) (number : ℕ) → Moves (operation_of r.what) → 1 ≤ sector_count r.what
-      → IsNoWrite (operation_of r.what) → (past : Bool)
+      → (past : Bool)
       → ends_past (8 * blocks) r.what ≡ past
       → AllByRecursion (CanAnswer v) (map (piece r number past)
       (enumerate_from 0 (parts_of z blocks r.what)))
-  moving_can r number moves some no_write true is =
+  moving_can r number moves some true is =
       let same : 8 * blocks ≡ device_sectors (sets_of v) = omega arith in
       rw (parts_past z blocks r.what is)
       (ap (λ (n : ℕ). ends_past n r.what) (sym same) ∙ is, tt)
-  moving_can r number moves some no_write false is =
+  moving_can r number moves some false is =
       rw (parts_within z blocks r.what is)
       (cut_can r number 0 (first_sector r.what) (first_sector r.what + sector_count r.what)
-      (range_with_len 0 (chunks_touched z r.what)) no_write
+      (range_with_len 0 (chunks_touched z r.what))
       (ends_within (8 * blocks) r.what is)
       (parts_cut z r.what some_blocks moves some))
 
@@ -132,7 +130,7 @@ module _ (v : PlainVolume) (are : AreSets (sets_of v)) where
       moving : Moves (operation_of r.what) → AllByRecursion (CanAnswer v)
           (pieces_of_request z blocks (number, r))
       moving moves =
-          moving_can r number moves (may.some moves) may.no_write
+          moving_can r number moves (may moves)
           (ends_past (8 * blocks) r.what) refl
 
       by_operation : (w : What) → r.what ≡ w → AllByRecursion (CanAnswer v)

@@ -1,15 +1,19 @@
 -- What one caller alone asks of a volume, piece by piece, and what the answers make of the volume.
-use Rattle.std.specs.Prelude.{◌≡◌, ◌-◌, ◌*◌, ◌^◌, ◌<◌, ◌≤◌, Bool, true, false, ⊤, Some, None}
+use Rattle.std.specs.Prelude.{◌≡◌, ◌⊎◌, ℕ, ◌-◌, ◌*◌, ◌^◌, ◌<◌, ◌≤◌, Bool, true, false, ⊤, Some, None}
 use Rattle.std.specs.Prelude.{List, [], ◌∷◌, ◌++◌, map}
 use Rattle.zd_base.specs.declared.numbers.Why.{Why}
 use Rattle.zd_disk.specs.View.{Stays, View}
 use Rattle.zd_model.specs.History.{HistoryEntry, mark_of_entry, mark_of_piece}
 use Rattle.zd_model.specs.Plain.{Answer, ends_past}
 use Rattle.zd_model.specs.Plain.Answer.{Fault}
-use Rattle.zd_model.specs.Requests.{Moves, Operation, operation_of, sector_count}
+use Rattle.zd_model.specs.Requests.{Moves, Operation, block_count, operation_of, sector_count}
 use Rattle.zd_model.specs.Requests.Operation.{Reading, Writing, Discarding, Flushing}
 use Rattle.zd_model.specs.declared.requests.Piece.{Piece}
 use Rattle.zd_model.specs.declared.requests.What.{What}
+use Rattle.zd_routes.specs.Edges.{NeedsEdge}
+use Rattle.zd_routes.specs.Routes.{LacksZone, WritesBlocks}
+use Rattle.zd_routes.specs.Writes.{with_failed_write}
+use Rattle.zd_routes.specs.declared.edges.Edge.{Edge}
 use Rattle.zd_volume.specs.Discards.{DiscardsBlocks}
 use Rattle.zd_volume.specs.Flights.{IsPieceIn, answered, with_entry}
 use Rattle.zd_volume.specs.Sets.{device_sectors}
@@ -17,12 +21,12 @@ use Rattle.zd_volume.specs.Uses.{dirty_from}
 use Rattle.zd_volume.specs.Volumes.{PlainVolume, sets_of}
 use Rattle.zd_volume.specs.declared.flight.Flight.{Flight}
 use Rattle.zd_volume.specs.declared.phase.Phase.TheVariants.{Idle}
+use Rattle.zd_alone.specs.declared.halt.Halt.{Halt}
 
--- a piece in range, by its operation: a read or a discard inside one chunk, or a flush; a write can't
--- be answered yet
+-- a piece in range, by its operation: a read, a write or a discard inside one chunk, or a flush
 abbrev pub CanAnswerIn : PlainVolume → Piece → Operation → Type 0
 CanAnswerIn v p Reading = IsPieceIn v p
-CanAnswerIn v p Writing = ⊥
+CanAnswerIn v p Writing = WritesBlocks (sets_of v) p.what
 CanAnswerIn v p Discarding = DiscardsBlocks (sets_of v) p.what
 CanAnswerIn v p Flushing = ⊤
 
@@ -34,6 +38,10 @@ CanAnswerBy v p false = CanAnswerIn v p (operation_of p.what)
 -- A PIECE THAT CAN BE ANSWERED
 abbrev pub CanAnswer : PlainVolume → Piece → Type 0
 CanAnswer v p = CanAnswerBy v p p.range
+
+-- the write buffer has room for the blocks of this piece, where it is a write in range
+abbrev pub HasRoom : ℕ → Piece → Type 0
+HasRoom room p = p.range ≡ false → operation_of p.what ≡ Writing → block_count p.what ≤ room
 
 -- the volume goes on, and neither a commit nor a job is under way
 pub record IsAtRest (v : PlainVolume) : Type 0 where
@@ -67,24 +75,43 @@ pub record BeginsRead (p : Piece) (f : Flight) : Type 0 where
   pub empty : f.bytes.items ≡ []
   pub room : 512 * sector_count p.what ≤ f.bytes.room
 
--- A piece at which a run ends: a read for which no memory was found, and nothing has changed; a flush
--- in whose calls the disk failed, which is entered so; or a flush for which there is no next
--- generation, which isn't entered. The volume is then stopped for that cause.
-abbrev pub StopsAt : PlainVolume → PlainVolume → Piece → Why → Type 0
-StopsAt from to p Why.Memory = (operation_of p.what ≡ Reading) × (to ≡ from)
-StopsAt from to p Why.Device = (operation_of p.what ≡ Flushing)
-    × (to ≡ record from {
+-- what takes memory before it is answered
+abbrev pub TakesMemory : Operation → Type 0
+TakesMemory Reading = ⊤
+TakesMemory Writing = ⊤
+TakesMemory operation = ⊥
+
+-- The disk failed in a flush or in a write, which is entered so; or it failed to read a block that a write
+-- touches in part, and that write isn't entered
+abbrev pub FailsAt : PlainVolume → PlainVolume → Piece → Operation → Type 0
+FailsAt from to p Reading = ⊥
+FailsAt from to p Writing =
+    (to ≡ with_failed_write from p)
+    ⊎ ((edge : Edge) × NeedsEdge from p.what edge × (to ≡ record from { stopped = Some Why.Device }))
+FailsAt from to p Discarding = ⊥
+FailsAt from to p Flushing =
+    to ≡ record from {
       phase = to.phase;
       history = from.history ++ answered p Fault to.since ∷ [];
       since = to.since;
       stopped = Some Why.Device;
-    })
-StopsAt from to p Why.Generation = (operation_of p.what ≡ Flushing)
+    }
+
+-- A PIECE AT WHICH A RUN ENDS: a read or a write for which no memory was found, and nothing has changed; a
+-- flush or a write in which the disk failed; a flush for which there is no next generation, which isn't
+-- entered. Of the last two the volume is stopped. Or a write that needs a conventional zone while none is
+-- free, and nothing has changed.
+abbrev pub StopsAt : PlainVolume → PlainVolume → Piece → Halt → Type 0
+StopsAt from to p (Halt.Stopped Why.Memory) = TakesMemory (operation_of p.what) × (to ≡ from)
+StopsAt from to p (Halt.Stopped Why.Device) = FailsAt from to p (operation_of p.what)
+StopsAt from to p (Halt.Stopped Why.Generation) = (operation_of p.what ≡ Flushing)
     × (0 < dirty_from from.dirty 1) × (from.head.generation ≡ 2 ^ 64 - 1)
     × (to ≡ record from { stopped = Some Why.Generation })
+StopsAt from to p Halt.NoZone = (p.range ≡ false) × (operation_of p.what ≡ Writing) × LacksZone from p.what
+    × (to ≡ from)
 
 -- a run that ended early: the pieces before this one are answered, and it ended at this one
-pub record StopsRun (from to : PlainVolume) (pieces : List Piece) (why : Why) : Type 0 where
+pub record StopsRun (from to : PlainVolume) (pieces : List Piece) (halt : Halt) : Type 0 where
   pub done : List Piece
   pub piece : Piece
   pub rest : List Piece
@@ -92,18 +119,13 @@ pub record StopsRun (from to : PlainVolume) (pieces : List Piece) (why : Why) : 
   pub last : PlainVolume
   pub answers : AnswersPieces from last done
   pub ready : IsAtRest last
-  pub stops : StopsAt last to piece why
+  pub stops : StopsAt last to piece halt
 
 -- what a disk tells later: the geometry stays, and no count falls
 pub record IsLater (u w : View) : Type 0 where
   pub stays : Stays u w
   pub order : u.calls ≤ w.calls
 
--- what a caller may ask for so far: some sectors at least or a flush, and no write
-abbrev pub IsNoWrite : Operation → Type 0
-IsNoWrite Writing = ⊥
-IsNoWrite operation = ⊤
-
-pub record MayAsk (what : What) : Type 0 where
-  pub some : Moves (operation_of what) → 1 ≤ sector_count what
-  pub no_write : IsNoWrite (operation_of what)
+-- what a caller may ask for: some sectors at least, or a flush
+abbrev pub MayAsk : What → Type 0
+MayAsk what = Moves (operation_of what) → 1 ≤ sector_count what

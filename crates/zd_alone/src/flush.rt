@@ -2,6 +2,7 @@
 
 ghost use Rattle.std.specs.Prelude.{◌≡◌, ◌<◌, ◌∷◌, [], OnOk, IfErr};
 ghost use Rattle.zd_alone.specs.Alone.{AnswersPieces, IsLater, IsAtRest, StopsAt};
+ghost use Rattle.zd_alone.specs.declared.halt.Halt.{Halt};
 ghost use Rattle.zd_base.specs.declared.numbers.Why.{Why};
 ghost use Rattle.zd_disk.specs.View.{HasFailed};
 ghost use Rattle.zd_model.specs.declared.requests.What.TheVariants.{Flush};
@@ -21,7 +22,7 @@ pub(crate) fn flush<D: ZonedDisk>(v: &mut Volume<D>, piece: &Piece) -> Result<()
     requires spare { 0 < v.old.spare }
     ensures ok { OnOk result (AnswersPieces v.old.plain v.new.plain (piece.now ∷ [])) }
     ensures ready { OnOk result (IsAtRest v.new.plain) }
-    ensures err { IfErr result (StopsAt v.old.plain v.new.plain piece.now) }
+    ensures err { IfErr result (λ why. StopsAt v.old.plain v.new.plain piece.now (Halt.Stopped why)) }
     ensures later { IsLater (D.view v.old.disk) (D.view v.new.disk) }
     ensures same { SameSession 1 v.old v.new }
     ensures cause { IfErr result (λ why. why ≡ Why.Device → HasFailed (D.view v.old.disk) (D.view v.new.disk)) }

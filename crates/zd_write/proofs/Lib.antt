@@ -1,3 +1,4 @@
 pub mod RouteGoals
 pub mod GivenJobs
 pub mod SettleLaws
+pub mod SettledRest
