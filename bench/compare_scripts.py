@@ -3,7 +3,8 @@
 
 Usage: bench/compare_scripts.py [COUNT [SEED]], after ./demo, which builds the programs.
 It stops at the first difference. Scripts lie near the rules: numbers at their bounds, and small slips.
-One volume is fresh; the other has blocks in zones and in buffer zones, and sectors of every kind of item.
+One volume is fresh; the other has blocks in zones and in buffer zones, and sectors of every kind of item. Each
+script runs over a copy of its own.
 """
 import random
 import re
@@ -80,24 +81,43 @@ def items(content, first, end):
         yield from [name] * count if name[0] == "h" else [f"{name}{count}"]
 
 
-def answers(requests, content):
-    """The report's lines of reads of a volume's content, each in its own unit: blocks or sectors."""
-    for request, (letters, (_, place, count)) in enumerate(requests, 1):
-        sectors = BLOCK_SECTORS if letters == b"r" else 1
-        units = BLOCK_SECTORS // sectors
+def answers(requests, content, zones):
+    """The report's lines, each in its request's own unit: blocks or sectors."""
+    content, zones, dirty, calls = list(content), dict(zones), set(), 0
+    for request, (letters, numbers) in enumerate(requests, 1):
         form = letters.decode()
+        if form == "f":
+            calls += 2 * len(dirty) + 6 if dirty else 1
+            dirty.clear()
+            yield f"0 {request} 0 f done @{calls}"
+            continue
+        place, count = numbers[1:]
+        sectors = 1 if form == "rs" else BLOCK_SECTORS
+        units = BLOCK_SECTORS // sectors
         if place + count > BLOCKS * units:
-            yield f"0 {request} 0 {form} {place} {count} range @0"
+            yield f"0 {request} 0 {form} {place} {count} range @{calls}"
             continue
         at, piece, chunk = place, 0, CHUNK * units
         while at < place + count:
             end = min((at // chunk + 1) * chunk, place + count)
-            data = ",".join(items(content, at * sectors, end * sectors))
-            yield f"0 {request} {piece} {form} {at} {end - at} data {data} @0"
+            if form == "d":
+                discard(content, zones, dirty, at, end)
+                reply = "done"
+            else:
+                reply = "data " + ",".join(items(content, at * sectors, end * sectors))
+            yield f"0 {request} {piece} {form} {at} {end - at} {reply} @{calls}"
             at, piece = end, piece + 1
 
 
-def wanted(script, content):
+def discard(content, zones, dirty, first, end):
+    """Makes blocks invalid. The bits of a zone are one block of metadata, dirty once one of them changes."""
+    for block in range(first, end):
+        if block in zones:
+            dirty.add(zones.pop(block))
+            content[block * BLOCK_SECTORS:(block + 1) * BLOCK_SECTORS] = EMPTY[:BLOCK_SECTORS]
+
+
+def wanted(script, content, zones):
     """What the program has to print, and its status."""
     lines = script.split(b"\n")
     rest = lines.pop()
@@ -112,9 +132,9 @@ def wanted(script, content):
         if why:
             return f"end 2 script {number} {why}\n", 2
         requests.append(request)
-    if any(letters not in (b"r", b"rs") or numbers[0] != 0 for letters, numbers in requests):
+    if any(letters in (b"w", b"ws") or numbers[0] != 0 for letters, numbers in requests):
         return "end 11 not-built\n", 11
-    report = [*answers(requests, content), "end 0 ok"]
+    report = [*answers(requests, content, zones), "end 0 ok"]
     return "\n".join(report) + "\n", 0
 
 
@@ -132,8 +152,9 @@ def random_sectors(block):
 
 
 def fill(image):
-    """Maps chunks of a fresh image in both sets, fills some of their blocks, and gives the content's sectors."""
-    content, filled = list(EMPTY), bytearray(image).ljust(zone_block(12, 0), b"\0")
+    """Maps chunks of a fresh image in both sets, fills some of their blocks, and gives the content's sectors, and
+    the zone in which each block is valid."""
+    content, places, filled = list(EMPTY), {}, bytearray(image).ljust(zone_block(12, 0), b"\0")
     for chunk, zones in MAPPED.items():
         entry = struct.pack("<II", *(0xFFFFFFFF if zone is None else zone for zone in zones))
         for set_zone in (0, 1):
@@ -143,7 +164,8 @@ def fill(image):
             zone = random.choice([*zones, None])
             if zone is not None:
                 fill_block(filled, content, chunk, zone, block)
-    return bytes(filled), content
+                places[chunk * CHUNK + block] = zone
+    return bytes(filled), content, places
 
 
 def fill_block(filled, content, chunk, zone, block):
@@ -165,7 +187,7 @@ def number():
 
 
 def line():
-    letters = random.choice(["r", "rs"] if random.random() < 0.8 else ["w", "ws", "d", "f"])
+    letters = random.choice(["r", "rs", "d", "f"] if random.random() < 0.9 else ["w", "ws"])
     fields = [number() for _ in range(FIELDS[letters])]
     if letters == "rs" and random.random() < 0.4:
         fields[1] = str(random.randint(0, BLOCKS * BLOCK_SECTORS))
@@ -182,27 +204,25 @@ def main():
     count = int(sys.argv[1]) if len(sys.argv) > 1 else 3000
     random.seed(int(sys.argv[2]) if len(sys.argv) > 2 else 1)
     with tempfile.TemporaryDirectory() as folder:
-        fresh, filled = Path(folder) / "fresh.img", Path(folder) / "filled.img"
-        subprocess.run([MAKE, fresh], check=True)
-        image, content = fill(fresh.read_bytes())
-        filled.write_bytes(image)
-        compare(count, [(fresh, EMPTY), (filled, content)])
-        if filled.read_bytes() != image:
-            sys.exit("a read changed the image")
+        disk = Path(folder) / "disk.img"
+        subprocess.run([MAKE, disk], check=True)
+        fresh = disk.read_bytes()
+        compare(count, disk, {"fresh": (fresh, EMPTY, {}), "filled": fill(fresh)})
 
 
-def compare(count, volumes):
+def compare(count, disk, volumes):
     seen = Counter()
     for _ in range(count):
-        image, content = random.choice(volumes)
+        name, (image, content, zones) = random.choice(list(volumes.items()))
+        disk.write_bytes(image)
         lines = [line() for _ in range(random.randint(0, 5))]
         end = "\n" if lines and random.random() < 0.95 else ""
         script = ("\n".join(lines) + end).encode()
-        run = subprocess.run([PROGRAM, image, "-"], input=script, capture_output=True)
-        want = wanted(script, content)
+        run = subprocess.run([PROGRAM, disk, "-"], input=script, capture_output=True)
+        want = wanted(script, content, zones)
         if (run.stdout.decode(), run.returncode) != want:
-            sys.exit(f"image {image.name}, script {script!r}\nwanted {want}\ngot {run.stdout!r}, {run.returncode}")
-        seen[image.stem, want[1]] += 1
+            sys.exit(f"image {name}, script {script!r}\nwanted {want}\ngot {run.stdout!r}, {run.returncode}")
+        seen[name, want[1]] += 1
     print("no difference; by volume and status:", dict(sorted(seen.items())))
 
 
