@@ -1,13 +1,12 @@
 -- Where the job on a chunk is given up, the place and the edges of a write stay.
-use Rattle.std.proofs.Common.{◌≡◌, ◌≢◌, ◌⊎◌, ℕ, ◌<◌, ◌≤◌, List, length, set, get_or-set_other, Option, Some, None}
+use Rattle.std.proofs.Common.{◌≡◌, ◌⊎◌, ℕ, ◌<◌, ◌≤◌, List, length, set, get_or-set_other, Option, Some, None}
 use Rattle.std.proofs.Common.{inl, inr, refl, sym, ap, ◌∙◌, subst, arith}
 use Rattle.std.proofs.lemmas.Bool.{cases_eq}
 use Rattle.std.proofs.lemmas.List.{length-set}
-use Rattle.zd_alloc.specs.Zones.{Division, IsLeastOf, use_at}
+use Rattle.zd_alloc.specs.Zones.{IsLeastOf, use_at}
 use Rattle.zd_alloc.specs.declared.uses.ZoneUse.{ZoneUse}
-use Rattle.zd_alloc.specs.declared.uses.ZoneUse.TheVariants.{Free, Meta}
+use Rattle.zd_alloc.specs.declared.uses.ZoneUse.TheVariants.{Meta}
 use Rattle.zd_base.specs.declared.geometry.Kind.TheVariants.{Conventional}
-use Rattle.zd_disk.proofs.ToldLaws.{Some-same}
 use Rattle.zd_model.specs.Image.{Image}
 use Rattle.zd_model.specs.Tables.{entry_of}
 use Rattle.zd_model.specs.declared.metadata.MapEntry.{MapEntry}

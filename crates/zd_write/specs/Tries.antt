@@ -1,5 +1,5 @@
 -- What a step of a write, and a discard, make of a volume.
-use Rattle.std.specs.Prelude.{◌≡◌, ◌≢◌, ◌⊎◌, ℕ, Option, Some, None}
+use Rattle.std.specs.Prelude.{◌≡◌, ℕ}
 use Rattle.zd_disk.specs.View.{HasFailed, OnlyReads, ReadsNone, View}
 use Rattle.zd_model.specs.declared.requests.Piece.{Piece}
 use Rattle.zd_routes.specs.Promotions.{IsBare, PromotesChunk}
