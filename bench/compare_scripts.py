@@ -1,9 +1,12 @@
 #!/usr/bin/env python3
-"""Compares zreplay_one with a plain, slow reading of the rules, on random scripts over two volumes.
+"""Compares zreplay_one with a plain, slow reading of the rules, on random scripts over three volumes.
 
 Usage: bench/compare_scripts.py [COUNT [SEED]], after ./demo, which builds the programs.
-It stops at the first difference. Scripts lie near the rules: numbers at their bounds, and small slips.
-One volume is fresh; the other has blocks in zones and in buffer zones, and sectors of every kind of item.
+It stops at the first difference. Half of the scripts lie near the rules: numbers at their bounds, and small slips. The
+others are of right requests, with many writes. One volume is fresh; the others have blocks in zones and in buffer zones,
+and sectors of every kind of item, and one of them has conventional zones to spare. Each script runs over a copy of its
+own, and after a run that ended well the image is read back by a second run. The end tells how often each place of a
+write was taken.
 """
 import random
 import re
@@ -15,14 +18,20 @@ from collections import Counter
 from itertools import groupby
 from pathlib import Path
 
+from volume_model import Volume
+
 TOP = Path(__file__).resolve().parent.parent
 PROGRAM = TOP / "crates/zreplay_one/out/zreplay_one"
 MAKE = TOP / "examples/fresh/make"
 BLOCKS, CHUNK, BLOCK_SECTORS, SECTOR = 128, 16, 8, 512
 BLOCK, CONVENTIONAL, POINTERS, ZONES = BLOCK_SECTORS * SECTOR, 6, 4096, 8192
 EMPTY = [bytes(SECTOR)] * (BLOCKS * BLOCK_SECTORS)
+METADATA, ALL_ZONES = 2, 12
 # Chunk: its zone and its buffer zone, which is conventional, or None. The other chunks have no zone.
-MAPPED = {0: (6, 2), 1: (3, None), 2: (9, None), 4: (7, 5), 7: (4, None)}
+FULL = {0: (6, 2), 1: (3, None), 2: (9, None), 4: (7, 5), 7: (4, None)}
+LOOSE = {0: (6, 2), 1: (3, None), 2: (9, None), 4: (7, None)}
+# The chunks that may be written without want of a zone, whatever was written before.
+WRITABLE = {"fresh": [0, 3, 5, 7], "full": [0, 1, 4, 7], "loose": [0, 1, 2, 4]}
 
 NUMBER = rb"(0|[1-9][0-9]*)"
 FIELDS = {"r": 3, "w": 4, "d": 3, "f": 1, "rs": 3, "ws": 4}
@@ -80,24 +89,57 @@ def items(content, first, end):
         yield from [name] * count if name[0] == "h" else [f"{name}{count}"]
 
 
-def answers(requests, content):
-    """The report's lines of reads of a volume's content, each in its own unit: blocks or sectors."""
-    for request, (letters, (_, place, count)) in enumerate(requests, 1):
-        sectors = BLOCK_SECTORS if letters == b"r" else 1
-        units = BLOCK_SECTORS // sectors
+def pieces(place, count, chunk):
+    """A request cut at the bounds of chunks: where each piece begins, and where it ends."""
+    at = place
+    while at < place + count:
+        end = min((at // chunk + 1) * chunk, place + count)
+        yield at, end
+        at = end
+
+
+def answers(requests, content, volume):
+    """The report's lines, each in its request's own unit: blocks or sectors. The last one says how the run ended."""
+    for request, (letters, numbers) in enumerate(requests, 1):
         form = letters.decode()
-        if place + count > BLOCKS * units:
-            yield f"0 {request} 0 {form} {place} {count} range @0"
+        if form == "f":
+            volume.flush()
+            yield f"0 {request} 0 f done @{volume.calls}"
             continue
-        at, piece, chunk = place, 0, CHUNK * units
-        while at < place + count:
-            end = min((at // chunk + 1) * chunk, place + count)
-            data = ",".join(items(content, at * sectors, end * sectors))
-            yield f"0 {request} {piece} {form} {at} {end - at} data {data} @0"
-            at, piece = end, piece + 1
+        place, count, *seed = numbers[1:]
+        sectors = 1 if form in ("rs", "ws") else BLOCK_SECTORS
+        units = BLOCK_SECTORS // sectors
+        rest = "".join(f" {number}" for number in seed)
+        if place + count > BLOCKS * units:
+            yield f"0 {request} 0 {form} {place} {count}{rest} range @{volume.calls}"
+            continue
+        for piece, (at, end) in enumerate(pieces(place, count, CHUNK * units)):
+            reply = answer(form, content, volume, at * sectors, end * sectors, seed)
+            if reply is None:
+                yield "end 11 not-built"
+                return
+            yield f"0 {request} {piece} {form} {at} {end - at}{rest} {reply} @{volume.calls}"
+    yield "end 0 ok"
 
 
-def wanted(script, content):
+def answer(form, content, volume, first, end, seed):
+    """The reply to a piece of sectors `first` to before `end`; None where a write finds no zone."""
+    if form in ("r", "rs"):
+        return "data " + ",".join(items(content, first, end))
+    blocks = first // BLOCK_SECTORS, -(-end // BLOCK_SECTORS)
+    chunk = blocks[0] // CHUNK
+    inside = blocks[0] % CHUNK, blocks[1] - chunk * CHUNK
+    if form == "d":
+        volume.discard(chunk, *inside)
+        content[first:end] = EMPTY[first:end]
+        return "done"
+    if not volume.write(chunk, *inside):
+        return None
+    content[first:end] = [pattern(seed[0], sector) for sector in range(first, end)]
+    return "done"
+
+
+def wanted(script, content, volume):
     """What the program has to print, and its status."""
     lines = script.split(b"\n")
     rest = lines.pop()
@@ -112,10 +154,10 @@ def wanted(script, content):
         if why:
             return f"end 2 script {number} {why}\n", 2
         requests.append(request)
-    if any(letters not in (b"r", b"rs") or numbers[0] != 0 for letters, numbers in requests):
+    if any(numbers[0] != 0 for _, numbers in requests):
         return "end 11 not-built\n", 11
-    report = [*answers(requests, content), "end 0 ok"]
-    return "\n".join(report) + "\n", 0
+    report = [*answers(requests, content, volume)]
+    return "\n".join(report) + "\n", int(report[-1].split()[1])
 
 
 def zone_block(zone, block):
@@ -131,10 +173,12 @@ def random_sectors(block):
         yield random.choice(other) if random.random() < 0.3 else pattern(seed, sector)
 
 
-def fill(image):
-    """Maps chunks of a fresh image in both sets, fills some of their blocks, and gives the content's sectors."""
-    content, filled = list(EMPTY), bytearray(image).ljust(zone_block(12, 0), b"\0")
-    for chunk, zones in MAPPED.items():
+def fill(image, mapped):
+    """Maps chunks of a fresh image in both sets, fills some of their blocks, and gives the content's sectors, and
+    what a model of the volume is made of."""
+    content, valid, pointers = list(EMPTY), {}, {}
+    filled = bytearray(image).ljust(zone_block(ALL_ZONES, 0), b"\0")
+    for chunk, zones in mapped.items():
         entry = struct.pack("<II", *(0xFFFFFFFF if zone is None else zone for zone in zones))
         for set_zone in (0, 1):
             place = zone_block(set_zone, 1) + chunk * len(entry)
@@ -143,7 +187,9 @@ def fill(image):
             zone = random.choice([*zones, None])
             if zone is not None:
                 fill_block(filled, content, chunk, zone, block)
-    return bytes(filled), content
+                valid.setdefault(zone, set()).add(block)
+                pointers[zone] = block + 1
+    return bytes(filled), content, (mapped, valid, {zone: at for zone, at in pointers.items() if zone >= CONVENTIONAL})
 
 
 def fill_block(filled, content, chunk, zone, block):
@@ -164,8 +210,8 @@ def number():
     return "0" + text if random.random() < 0.02 else text
 
 
-def line():
-    letters = random.choice(["r", "rs"] if random.random() < 0.8 else ["w", "ws", "d", "f"])
+def slip():
+    letters = random.choice(["r", "rs", "d", "f"] if random.random() < 0.9 else ["w", "ws"])
     fields = [number() for _ in range(FIELDS[letters])]
     if letters == "rs" and random.random() < 0.4:
         fields[1] = str(random.randint(0, BLOCKS * BLOCK_SECTORS))
@@ -178,32 +224,66 @@ def line():
     return " ".join([letters, *fields])
 
 
+def right(chunks):
+    """A request that is right, for the most part inside one of these chunks."""
+    letters = random.choice(["w", "w", "w", "ws", "ws", "d", "r", "rs", "f"])
+    if letters == "f":
+        return "f 0"
+    units = BLOCK_SECTORS if letters in ("rs", "ws") else 1
+    chunk = random.choice(chunks) if letters in ("w", "ws") or random.random() < 0.7 else random.randrange(8)
+    first = random.randrange(CHUNK * units)
+    count = random.randint(1, min(CHUNK * units - first, 6 * units))
+    if letters == "d" and random.random() < 0.3:
+        first, count = 0, CHUNK
+    seed = f" {random.choice([1, 2, 7, 2**32 - 1])}" if letters in ("w", "ws") else ""
+    return f"{letters} 0 {chunk * CHUNK * units + first} {count}{seed}"
+
+
 def main():
     count = int(sys.argv[1]) if len(sys.argv) > 1 else 3000
     random.seed(int(sys.argv[2]) if len(sys.argv) > 2 else 1)
     with tempfile.TemporaryDirectory() as folder:
-        fresh, filled = Path(folder) / "fresh.img", Path(folder) / "filled.img"
-        subprocess.run([MAKE, fresh], check=True)
-        image, content = fill(fresh.read_bytes())
-        filled.write_bytes(image)
-        compare(count, [(fresh, EMPTY), (filled, content)])
-        if filled.read_bytes() != image:
-            sys.exit("a read changed the image")
+        disk = Path(folder) / "disk.img"
+        subprocess.run([MAKE, disk], check=True)
+        fresh = disk.read_bytes()
+        volumes = {"fresh": (fresh, EMPTY, ({}, {}, {})), "full": fill(fresh, FULL), "loose": fill(fresh, LOOSE)}
+        compare(count, disk, volumes)
 
 
-def compare(count, volumes):
-    seen = Counter()
-    for _ in range(count):
-        image, content = random.choice(volumes)
-        lines = [line() for _ in range(random.randint(0, 5))]
-        end = "\n" if lines and random.random() < 0.95 else ""
+def ran(disk, script):
+    run = subprocess.run([PROGRAM, disk, "-"], input=script, capture_output=True)
+    return run.stdout.decode(), run.returncode
+
+
+def read_back(content):
+    """The script that reads the whole device, and what it has to print over this content."""
+    lines = [f"r 0 {chunk * CHUNK} {CHUNK}" for chunk in range(BLOCKS // CHUNK)]
+    size = CHUNK * BLOCK_SECTORS
+    report = [f"0 {chunk + 1} 0 r {chunk * CHUNK} {CHUNK} data "
+              + ",".join(items(content, chunk * size, (chunk + 1) * size)) + " @0" for chunk in range(BLOCKS // CHUNK)]
+    return ("\n".join(lines) + "\n").encode(), "\n".join([*report, "end 0 ok"]) + "\n"
+
+
+def compare(count, disk, volumes):
+    seen, routes = Counter(), Counter()
+    for turn in range(count):
+        name, (image, start, tables) = random.choice(list(volumes.items()))
+        disk.write_bytes(image)
+        content, volume = list(start), Volume(CHUNK, METADATA, CONVENTIONAL, ALL_ZONES, *tables)
+        lines = [slip() for _ in range(random.randint(0, 5))] if turn % 2 else [
+            right(WRITABLE[name]) for _ in range(random.randint(1, 30))]
+        end = "\n" if lines and (turn % 2 == 0 or random.random() < 0.95) else ""
         script = ("\n".join(lines) + end).encode()
-        run = subprocess.run([PROGRAM, image, "-"], input=script, capture_output=True)
-        want = wanted(script, content)
-        if (run.stdout.decode(), run.returncode) != want:
-            sys.exit(f"image {image.name}, script {script!r}\nwanted {want}\ngot {run.stdout!r}, {run.returncode}")
-        seen[image.stem, want[1]] += 1
+        got, want = ran(disk, script), wanted(script, content, volume)
+        if got == want and want[1] == 0:
+            again, want_again = read_back(content)
+            got, want = ran(disk, again), (want_again, 0)
+        if got != want:
+            sys.exit(f"image {name}, script {script!r}\nwanted {want}\ngot {got}")
+        seen[name, want[1]] += 1
+        routes += volume.routes
     print("no difference; by volume and status:", dict(sorted(seen.items())))
+    print("places of writes:", dict(sorted(routes.items())))
 
 
 main()

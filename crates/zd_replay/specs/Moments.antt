@@ -33,8 +33,8 @@ pub record LeavesOpening (stage : RunStage) (outcome : Outcome) (opened : ℕ) (
   -- as it could at first, or the volume that the disk read as
   pub way : v.calls < 2 ^ 64 - 1 → WhereTold u.zones (λ image.
       LeavesBy (IsLeftOrKept image) u.calls u.left (last_of_opening stage opened) v.left)
-  -- what the disk read as, or the same volume, once the first flush was answered; but where it failed, or the
-  -- disk failed before it
+  -- what the disk read as, or the same volume, once the first flush was answered: where the disk failed in
+  -- opening, a second writing call shows that it was
   pub settled : (stage ≡ Opening → outcome ≡ no_device → u.calls + 2 ≤ opened) → v.calls < 2 ^ 64 - 1 →
       WhereTold u.zones (λ image. (k : ℕ) (i : Image) → u.calls + 1 ≤ k → k ≤ last_of_opening stage opened →
       v.left k i → IsKept image i)

@@ -12,8 +12,6 @@ use Rattle.zd_tables.specs.Tables.{entry_in_blocks, tables_in}
 use Rattle.zd_tables.proofs.TableLaws.{entry_changed, entry_is}
 use Rattle.zd_volume.specs.Marks.{MarksChanged}
 use Rattle.zd_volume.specs.Sets.{AreSets, Sets, new_tables}
-use Rattle.zd_volume.specs.declared.work.Place.{Place}
-use Rattle.zd_volume.specs.declared.work.Place.TheVariants.{Buffer, Main, NewBuffer, NewMain}
 use Rattle.zd_volume.proofs.DropTables.{in_or_out}
 use Rattle.zd_volume.proofs.MarkLaws.{marks_none, marks_then}
 

@@ -1,7 +1,7 @@
 -- A write's call keeps a volume, done or failed: for a stop each sector that it may put is what the write puts there,
 -- or what was there last.
 use Rattle.std.proofs.Common.{◌≡◌, ◌⊎◌, ℕ, ◌+◌, ◌-◌, ◌*◌, ◌/◌, ◌^◌, ◌<◌, ◌≤◌, Bool, false, cond, List, [], ◌∷◌, ◌++◌}
-use Rattle.std.proofs.Common.{length, Option, Some, None, inl, inr, refl, sym, ap, ap₂, ◌∙◌, arith}
+use Rattle.std.proofs.Common.{length, Some, None, inl, inr, refl, sym, ap, ap₂, ◌∙◌, arith}
 use Rattle.std.specs.List.{concat}
 use Rattle.std.specs.Prelude.{slice_range}
 use Rattle.zd_alloc.specs.Candidates.{Standings}
@@ -19,12 +19,10 @@ use Rattle.zd_model.specs.declared.requests.Piece.{Piece}
 use Rattle.zd_model.specs.declared.requests.What.{What}
 use Rattle.zd_model.specs.declared.requests.What.TheVariants.{Discard, Flush, Read, ReadSectors, Write, WriteSectors}
 use Rattle.zd_model.proofs.ArrayLaws.{length-last_array}
-use Rattle.zd_model.proofs.HeldLaws.{AreBy-push, past}
 use Rattle.zd_model.proofs.HistoryLaws.{Adds}
 use Rattle.zd_disk.specs.Steps.{WriteLeaves, WriteStep, count_of, piece}
 use Rattle.zd_disk.specs.Told.{WhereTold, next_count}
 use Rattle.zd_disk.specs.View.{Calls, Turns, View}
-use Rattle.zd_disk.proofs.StepGrowth.{grows_by_write}
 use Rattle.zd_volume.specs.Commits.{stopped_by}
 use Rattle.zd_volume.specs.Discards.{range_first}
 use Rattle.zd_volume.specs.FaultCounts.{AreCalm, TellsFaults}
@@ -36,8 +34,6 @@ use Rattle.zd_volume.specs.declared.work.Place.{Place}
 use Rattle.zd_volume.proofs.Choices.{some_blocks}
 use Rattle.zd_volume.proofs.DataSteps.{NowAfter}
 use Rattle.zd_volume.proofs.DataWrites.{after_write, kept_write}
-use Rattle.zd_volume.proofs.InPhases.{next_more}
-use Rattle.zd_volume.proofs.Kept.{told_after, told_before}
 use Rattle.zd_volume.proofs.LegalEntries.{legal_plain, legal_write_fault}
 use Rattle.zd_volume.proofs.PlaceLaws.{named_place}
 use Rattle.zd_routes.specs.Edges.{IsMerged}

@@ -1,5 +1,5 @@
 -- What a change of one chunk's entry, and of the bits of its zones, has to be.
-use Rattle.std.specs.Prelude.{◌≡◌, ◌≢◌, ℕ, ◌<◌, ◌≤◌, Bool, true, false, List, length, Option, Some, IsSomeAnd, IsTrue}
+use Rattle.std.specs.Prelude.{◌≡◌, ◌≢◌, ℕ, ◌<◌, ◌≤◌, false, Some, IsSomeAnd, IsTrue}
 use Rattle.zd_base.specs.Geometry.{Shape, zone_count}
 use Rattle.zd_base.specs.Layout.{first_data_zone}
 use Rattle.zd_model.specs.Tables.{NamesZone, Tables, entry_of, is_valid}

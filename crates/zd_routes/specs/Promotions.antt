@@ -1,5 +1,5 @@
 -- What a promotion makes of a volume's values: a chunk's buffer becomes its zone.
-use Rattle.std.specs.Prelude.{◌≡◌, ℕ, ◌<◌, false, List, length, get_or, set, Option, Some, None}
+use Rattle.std.specs.Prelude.{◌≡◌, ℕ, ◌<◌, false, length, get_or, set, Some, None}
 use Rattle.zd_alloc.specs.Candidates.{GivesClass}
 use Rattle.zd_alloc.specs.Zones.{use_after_release}
 use Rattle.zd_model.specs.Tables.{entry_of, is_valid}

@@ -1,9 +1,8 @@
 -- What a write makes of a volume's values, done or failed.
-use Rattle.std.specs.Prelude.{◌≡◌, ℕ, List, [], ◌∷◌, ◌++◌, Option, Some}
+use Rattle.std.specs.Prelude.{◌≡◌, ℕ, List, [], ◌∷◌, ◌++◌, Some}
 use Rattle.zd_base.specs.declared.numbers.Why.{Why}
-use Rattle.zd_alloc.specs.Candidates.{Follows, GivesClass, Standings}
+use Rattle.zd_alloc.specs.Candidates.{Follows, GivesClass}
 use Rattle.zd_alloc.specs.Order.{PutsLast}
-use Rattle.zd_alloc.specs.Zones.{Division}
 use Rattle.zd_disk.specs.Told.{next_count}
 use Rattle.zd_disk.specs.View.{HasFailed, Stays, View}
 use Rattle.zd_model.specs.Plain.Answer.{Done, Fault}

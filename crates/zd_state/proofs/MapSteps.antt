@@ -1,9 +1,9 @@
 -- The blocks of a write are mapped, by the steps of the code: its chunk's entry, the bits of the zone that is written,
 -- those of the other.
-use Rattle.std.proofs.Common.{◌≡◌, ◌⊎◌, ℕ, ◌+◌, ◌-◌, ◌^◌, ◌<◌, Bool, true, false, List, length, set, Option, Some, None}
+use Rattle.std.proofs.Common.{◌≡◌, ◌⊎◌, ℕ, ◌+◌, ◌-◌, ◌^◌, ◌<◌, Bool, true, false, List, length, Option, Some, None}
 use Rattle.std.proofs.Common.{inl, inr, refl, sym, ap, ◌∙◌, subst, arith}
 use Rattle.std.proofs.Common.{length-set}
-use Rattle.zd_base.specs.Geometry.{Shape, zone_count}
+use Rattle.zd_base.specs.Geometry.{zone_count}
 use Rattle.zd_map.specs.Numbers.{IsZoneField, NamesZones}
 use Rattle.zd_model.specs.Requests.{block_count}
 use Rattle.zd_model.specs.Tables.{entry_of}

@@ -16,7 +16,7 @@ use Rattle.zd_tables.specs.Rules.{FollowRules}
 use Rattle.zd_tables.specs.Tables.{tables_in}
 use Rattle.zd_volume.specs.Flights.{tables_now}
 use Rattle.zd_volume.specs.Jobs.{class_in}
-use Rattle.zd_volume.specs.Volumes.{IsFixed, PlainVolume, sets_of}
+use Rattle.zd_volume.specs.Volumes.{IsFixed, PlainVolume}
 use Rattle.zd_routes.specs.Promotions.{IsBare, PromotesChunk}
 use Rattle.zd_routes.proofs.FixedPromotions.{promoted_sets}
 use Rattle.zd_routes.proofs.RouteBlocks.{promoted_entry}

@@ -1,5 +1,5 @@
 -- A write that was done, by the steps of its code.
-use Rattle.std.proofs.Common.{◌≡◌, ℕ, ◌++◌, ◌∷◌, [], Bool, List, Option, sym, ap, ◌∙◌, subst, refl}
+use Rattle.std.proofs.Common.{◌≡◌, ℕ, ◌++◌, ◌∷◌, [], List, Option, sym, ap, ◌∙◌, subst, refl}
 use Rattle.zd_alloc.specs.Candidates.{Follows, GivesClass}
 use Rattle.zd_alloc.specs.Order.{PutsLast}
 use Rattle.zd_alloc.specs.declared.job_class.JobClass.{JobClass}
@@ -15,7 +15,7 @@ use Rattle.zd_volume.specs.Marks.{MarksChanged}
 use Rattle.zd_volume.specs.Volumes.{IsFixed, PlainVolume, sets_of}
 use Rattle.zd_volume.specs.declared.work.Place.{Place}
 use Rattle.zd_routes.specs.Routes.{IsRoute, WritesRange, entry_touched, entry_with, other_zone, pointers_with, uses_with}
-use Rattle.zd_routes.specs.Writes.{WritesPiece, with_write}
+use Rattle.zd_routes.specs.Writes.{WritesPiece}
 use Rattle.zd_routes.proofs.RouteTables.{written_sets}
 
 -- THE STEPS: the blocks are mapped, a zone is taken, a pointer moves

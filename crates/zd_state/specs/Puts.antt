@@ -1,5 +1,5 @@
 -- The one call of a write.
-use Rattle.std.specs.Prelude.{◌≡◌, ℕ, List, Result, OnErr, OnOk}
+use Rattle.std.specs.Prelude.{ℕ, List, Result, OnErr, OnOk}
 use Rattle.zd_disk.specs.Steps.{WriteLeaves, WriteStep, Wrote}
 use Rattle.zd_disk.specs.View.{Calls, Fails, Turns, View}
 use Rattle.zd_model.specs.declared.requests.What.{What}

@@ -79,13 +79,7 @@ fn bits_block(geometry: &Geometry, layout: &Layout, zone: ZoneNo) -> u32
 impl VolumeState {
     /// Makes so many blocks of a zone, from this one on, valid or invalid, where there is a zone. The blocks
     /// of the set that change are dirty.
-    pub(crate) fn give_blocks(
-        &mut self,
-        zone: Option<ZoneNo>,
-        first: u32,
-        count: u32,
-        valid: bool,
-    )
+    pub(crate) fn give_blocks(&mut self, zone: Option<ZoneNo>, first: u32, count: u32, valid: bool)
         requires flags { length self.old.plain.dirty ≡ used (sets_of self.old.plain) }
         requires zone { ForSome zone (λ z. z < zone_count self.old.plain.geometry) }
         requires inside { first + count ≤ self.old.plain.geometry.zone_blocks }

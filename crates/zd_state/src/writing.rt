@@ -207,9 +207,11 @@ impl VolumeState {
     /// A write into a zone ended before this block.
     fn move_pointer(&mut self, zone: ZoneNo, end: u32)
         requires zone { zone < length self.old.plain.pointers }
-        ensures { self.new ≡ record self.old { plain = record self.old.plain {
-          pointers = pointers_with self.old.plain.geometry self.old.plain.pointers zone end;
-        } } }
+        ensures { self.new ≡ record self.old {
+          plain = record self.old.plain {
+            pointers = pointers_with self.old.plain.geometry self.old.plain.pointers zone end;
+          };
+        } }
     {
         if zone.0 >= self.geometry().conv() {
             self.pointers[zone.0 as usize] = end;
@@ -225,10 +227,12 @@ impl VolumeState {
         ensures conv { self.new.plain.division.conv ≡ self.old.plain.division.conv }
         ensures numbers { Follows chunk self.old.plain.standings.numbers self.new.plain.standings.numbers }
         ensures classes { self.new.plain.standings.classes ≡ self.old.plain.standings.classes }
-        ensures rest { self.new ≡ record self.old { plain = record self.old.plain {
-          division = self.new.plain.division;
-          standings = self.new.plain.standings;
-        } } }
+        ensures rest { self.new ≡ record self.old {
+          plain = record self.old.plain {
+            division = self.new.plain.division;
+            standings = self.new.plain.standings;
+          };
+        } }
     {
         self.alloc.touch(chunk);
         self.candidates.touch(chunk);

@@ -8,10 +8,10 @@ use Rattle.zd_base.specs.declared.numbers.Why.{Why}
 use Rattle.zd_alloc.specs.Zones.{Division}
 use Rattle.zd_model.specs.Image.{Image}
 use Rattle.zd_model.specs.Places.{spot, zone_at}
-use Rattle.zd_model.specs.Safe.{base_at}
+use Rattle.zd_model.specs.Safe.{base_at, last_at}
 use Rattle.zd_model.specs.Tables.{is_valid}
 use Rattle.zd_disk.specs.OfGeometry.{IsImageOf}
-use Rattle.zd_disk.specs.Steps.{ResetLeaves, ResetStep, WriteLeaves, WriteStep, count_of}
+use Rattle.zd_disk.specs.Steps.{ResetLeaves, ResetStep, WriteLeaves, WriteStep, count_of, piece}
 use Rattle.zd_disk.specs.Told.{next_count}
 use Rattle.zd_disk.specs.View.{Calls, HasFailed, Turns, View}
 use Rattle.zd_disk.proofs.StepGrowth.{grows_by_reset, grows_by_write}
@@ -19,8 +19,8 @@ use Rattle.zd_volume.specs.Commits.{stopped_by}
 use Rattle.zd_volume.specs.FaultCounts.{TellsFaults}
 use Rattle.zd_volume.specs.LeftImages.{MayBeLeft}
 use Rattle.zd_volume.specs.Phases.{TakesNew, TakesOld}
-use Rattle.zd_volume.specs.Sets.{new_tables, old_tables}
-use Rattle.zd_volume.specs.Volumes.{IsFixed, IsKeptVolume, IsNow, Known, PlainVolume, sets_of}
+use Rattle.zd_volume.specs.Sets.{device_sectors, new_tables, old_tables}
+use Rattle.zd_volume.specs.Volumes.{IsFixed, IsKeptVolume, IsNow, Known, MayBe, PlainVolume, sets_of}
 use Rattle.zd_volume.specs.declared.work.Work.{Work}
 use Rattle.zd_volume.proofs.Choices.{sets_apart}
 use Rattle.zd_volume.proofs.FaultEntries.{faults_failed, faults_later}
@@ -54,13 +54,14 @@ after_data v division pointers job buffer stopped = record v {
   stopped = stopped;
 }
 
--- no table that a stop may choose has a sector in this range
-pub record IsApartFrom (v : PlainVolume) (z start count : ℕ) : Type 0 where
-  pub far : first_data_zone v.geometry v.head.layout ≤ z
-  pub old : TakesOld v.phase → (n j : ℕ) → zone_at v.geometry.zone_blocks (old_tables (sets_of v)) n ≡ Some z
-      → j < count → spot v.geometry.zone_blocks n ≢ start + j
-  pub new : TakesNew v.phase → (n j : ℕ) → zone_at v.geometry.zone_blocks (new_tables (sets_of v)) n ≡ Some z
-      → j < count → spot v.geometry.zone_blocks n ≢ start + j
+-- where a table that a stop may choose has a sector in this range, these bytes have what was there last
+pub record PutsLast (v : PlainVolume) (base : List (List ℕ)) (z start : ℕ) (bytes : List ℕ) : Type 0 where
+  pub old : TakesOld v.phase → (n j : ℕ) → n < device_sectors (sets_of v)
+      → zone_at v.geometry.zone_blocks (old_tables (sets_of v)) n ≡ Some z → j < count_of bytes
+      → spot v.geometry.zone_blocks n ≡ start + j → piece bytes j ≡ last_at base v.history n
+  pub new : TakesNew v.phase → (n j : ℕ) → n < device_sectors (sets_of v)
+      → zone_at v.geometry.zone_blocks (new_tables (sets_of v)) n ≡ Some z → j < count_of bytes
+      → spot v.geometry.zone_blocks n ≡ start + j → piece bytes j ≡ last_at base v.history n
 
 -- no table that a stop may choose has a sector or a valid block in this zone
 pub record IsBareZone (v : PlainVolume) (z : ℕ) : Type 0 where
@@ -84,11 +85,13 @@ module _ (v : PlainVolume) (opening d e : View) (runs : v.stopped ≡ None) (was
     (failed : done ≡ false → HasFailed d e)
     (R : Image → Image → Type 0) (turns : Turns R d e) where
   -- A COPY, done or cut short
-  pub kept_copy : (z start : ℕ) (bytes : List ℕ) → IsApartFrom v z start (count_of bytes)
+  pub kept_copy : (z start : ℕ) (bytes : List ℕ) → first_data_zone v.geometry v.head.layout ≤ z
+      → ((r : Image) → d.zones ≡ Some r → IsNow v (base_at opening.zones) r → MayBe v (base_at opening.zones) r
+      → PutsLast v (base_at opening.zones) z start bytes)
       → ((r : Image) → d.zones ≡ Some r → IsNow v (base_at opening.zones) r → v.geometry.conv ≤ z → start ≡ r.held z)
       → Calls (λ r. WriteStep r z start bytes) (λ r j. WriteLeaves r j z start bytes) d e
       → IsKeptVolume (after_data v division pointers job buffer (stopped_by done)) opening e
-  kept_copy z start bytes apart pointer call =
+  kept_copy z start bytes far last pointer call =
       kept_call v (after_data v division pointers job buffer (stopped_by done)) opening d e
       (λ r. WriteStep r z start bytes) runs was
       (record {
@@ -124,10 +127,11 @@ module _ (v : PlainVolume) (opening d e : View) (runs : v.stopped ≡ None) (was
           → WriteStep r z start bytes i c
           → MayBeLeft v.phase (sets_of v) (base_at opening.zones) v.history k c
       moved k r i c le t known s =
+          let puts = last r t known.reads known.reads_left in
           left_copy (sets_of v) was.fixed.sets v.phase v.since k z start bytes (base_at opening.zones) v.history r i c
-          known.reads_of known.left_of le was.counted.by_now apart.old apart.new s
+          known.reads_of known.left_of le was.counted.by_now puts.old puts.new s
           (λ seq. pointer r t known.reads (subst (λ (g : Shape). g.conv ≤ z) known.left_of.geometry seq))
-          (sets_apart (sets_of v) was.fixed.sets i c known.left_of z apart.far s.geometry s.others)
+          (sets_apart (sets_of v) was.fixed.sets i c known.left_of z far s.geometry s.others)
           known.reads_left known.left_is
 
   -- A RESET, done or not

@@ -1,4 +1,4 @@
-use Rattle.std.proofs.Common.{◌≡◌, ◌+◌, ◌∙◌, ap, false, length, arith}
+use Rattle.std.proofs.Common.{◌≡◌, ◌+◌, ◌∙◌, ap, length, arith}
 use Rattle.std.proofs.lemmas.List.{take_at}
 use Rattle.zd_state.proofs.DiscardSteps.{gives_in, second_there}
 use Rattle.zd_tables.specs.Held.{tables_held}

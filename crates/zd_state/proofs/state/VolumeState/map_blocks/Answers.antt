@@ -1,4 +1,4 @@
-use Rattle.std.proofs.Common.{◌≡◌, ◌∙◌, ap, refl}
+use Rattle.std.proofs.Common.{◌≡◌, ap}
 use Rattle.zd_model.specs.Tables.{entry_of}
 use Rattle.zd_volume.specs.Flights.{tables_now}
 use Rattle.zd_state.proofs.MapSteps.{fields_there, flags_there, marks_in_steps, other_inside, range_in_steps, zone_field}

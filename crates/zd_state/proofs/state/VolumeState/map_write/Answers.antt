@@ -1,11 +1,6 @@
-use Rattle.std.proofs.Common.{◌≡◌, ℕ, ◌+◌, ◌<◌, List, length, ◌∙◌, ap, refl, sym, subst, arith}
-use Rattle.zd_base.specs.Geometry.{zone_count}
+use Rattle.std.proofs.Common.{◌≡◌, ◌∙◌, ap, arith}
 use Rattle.zd_model.specs.Tables.{entry_of}
-use Rattle.zd_model.specs.declared.metadata.MapEntry.{MapEntry}
-use Rattle.zd_volume.specs.Discards.{range_end}
 use Rattle.zd_volume.specs.Flights.{tables_now}
-use Rattle.zd_volume.specs.Volumes.{PlainVolume}
-use Rattle.zd_routes.specs.Routes.{IsGoal}
 use Rattle.zd_routes.proofs.FixedWrites.{length-pointers_with}
 use Rattle.zd_routes.proofs.GoalLaws.{goal_data}
 use Rattle.zd_state.proofs.WriteSteps.{rules_written, writes_in_steps}

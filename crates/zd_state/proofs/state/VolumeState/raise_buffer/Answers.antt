@@ -1,4 +1,4 @@
-use Rattle.std.proofs.Common.{◌≡◌, length, ap, inl, refl, sym, arith}
+use Rattle.std.proofs.Common.{ap, inl, arith}
 use Rattle.zd_model.specs.declared.metadata.MapEntry.{MapEntry}
 use Rattle.zd_state.proofs.PromotionSteps.{buffer_field, promotes_in_steps, rules_promoted, zone_low}
 use Rattle.zd_state.specs.Seen.{KeptState}

@@ -1,5 +1,3 @@
-use Rattle.std.proofs.Common.{sym, subst, Bool, IsTrue, ◌↔◌, ℕ}
-use Rattle.zd_routes.specs.Promotions.{IsBare}
 use Rattle.zd_state.proofs.PromotionSteps.{bare_or_not}
 use Rattle.zd_state.proofs.volume.Volume.is_bare.Goals as goal
 

@@ -1,12 +1,10 @@
-use Rattle.std.proofs.Common.{◌≡◌, ◌*◌, ◌∙◌, ℕ, sym, ap, subst}
+use Rattle.std.proofs.Common.{◌*◌, ◌∙◌, ℕ, sym, ap, subst}
 use Rattle.zd_disk.proofs.ToldLaws.{OnErr-at, OnOk-at}
-use Rattle.zd_model.specs.Image.{Image}
 use Rattle.zd_volume.specs.Volumes.{IsKeptVolume, PlainVolume}
 use Rattle.zd_routes.proofs.GoalLaws.{goal_data}
 use Rattle.zd_routes.proofs.KeptWrites.{kept_failed_write, kept_written}
 use Rattle.zd_routes.proofs.MergedBlocks.{merged_by}
 use Rattle.zd_routes.proofs.WriteGoals.{starts_told}
-use Rattle.zd_state.specs.Seen.{KeptState}
 use Rattle.zd_state.proofs.volume.Volume.write_and_map.Goals as goal
 
 pub put_blocks-written-requires-clause-zone : goal.put_blocks-written-requires-clause-zone

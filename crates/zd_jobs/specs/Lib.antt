@@ -1,0 +1,4 @@
+pub mod Possible
+pub mod NextSteps
+pub mod JobSteps
+pub mod Remaps
