@@ -1,1 +1,3 @@
 pub mod PossibleJobs
+pub mod BegunUses
+pub mod FixedBegins
