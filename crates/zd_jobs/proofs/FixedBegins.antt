@@ -90,7 +90,7 @@ module _ (v : PlainVolume) (w : Work) (d : Division) (fixed : IsFixed v) (free :
       by Merge b = ap (λ (d : Division). d.order) b.2
 
   -- A SEQUENTIAL TARGET is written up to where the job begins, where it needs no reset
-  pointer_begun : (NeedsReset v w.job.kind w.target → ⊥) → (z : ℕ) → w.target ≡ Some z → v.geometry.conv ≤ z
+  pub pointer_begun : (NeedsReset v w.job.kind w.target → ⊥) → (z : ℕ) → w.target ≡ Some z → v.geometry.conv ≤ z
       → slice_index v.pointers z ≡ w.copied
   pointer_begun bare z target high = by w.job.kind begins bare
     where

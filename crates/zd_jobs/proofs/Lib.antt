@@ -1,3 +1,5 @@
 pub mod PossibleJobs
 pub mod BegunUses
 pub mod FixedBegins
+pub mod DataReads
+pub mod KeptBegins
