@@ -149,12 +149,12 @@ fixed_begins from to w fixed free possible inside bare did =
 -- with a reset
 module _ (from to : PlainVolume) (w : Work) (zone : ℕ) (fixed : IsFixed from) (free : from.job ≡ None)
     (possible : IsPossible from w.job.chunk w.job.kind) (did : BeginsWithReset from to w.job w zone) where
-  begins : BeginsBy from w.job.kind (entry_of (tables_now from) w.job.chunk) w.target w.copied to.division
+  pub begins : BeginsBy from w.job.kind (entry_of (tables_now from) w.job.chunk) w.target w.copied to.division
   begins =
       subst (λ (kind : JobKind). BeginsBy from kind (entry_of (tables_now from) w.job.chunk) w.target w.copied
       to.division) (sym did.kind) (zone, did.target, did.copied, did.takes)
 
-  inside : w.copied ≤ from.geometry.zone_blocks
+  pub inside : w.copied ≤ from.geometry.zone_blocks
   inside = (let none = did.copied in omega (arith, none))
 
   pub spare_reset : IsSpare (sets_of from) zone × (from.geometry.conv ≤ zone)

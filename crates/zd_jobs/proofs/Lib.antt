@@ -3,3 +3,5 @@ pub mod BegunUses
 pub mod FixedBegins
 pub mod DataReads
 pub mod KeptBegins
+pub mod KeptResets
+pub mod NextLaws

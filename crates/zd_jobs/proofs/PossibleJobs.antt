@@ -51,6 +51,21 @@ before_found p a (suc n) at x found low high = elim (first_or_rest p a n (Some a
   ]
 ]
 
+-- it passes, and is one of the numbers
+pub found_passes : (p : ℕ → Bool) (a n at : ℕ) → find p (range_with_len a n) ≡ Some at
+    → (p at ≡ true) × (a ≤ at) × (at < a + n)
+found_passes p a zero at found = absurd (none_some at found)
+found_passes p a (suc n) at found = elim (first_or_rest p a n (Some at) found) [
+  | inl passes ↦
+      let same = some_is at a passes.1 in
+      (ap p same ∙ passes.0, omega (arith, same), omega (arith, same))
+  | inr fails ↦
+      let rest = found_passes p (a + 1) n at fails.1 in
+      let low = rest.1 in
+      let high = rest.2 in
+      (rest.0, omega (arith, low), omega (arith, high))
+]
+
 some_kind : (one other : JobKind) → ◌≡◌ {A = Option JobKind} (Some one) (Some other) → one ≡ other
 some_kind one other is = cc
 
