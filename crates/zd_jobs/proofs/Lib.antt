@@ -5,3 +5,4 @@ pub mod DataReads
 pub mod KeptBegins
 pub mod KeptResets
 pub mod NextLaws
+pub mod ChunkSectors
