@@ -6,3 +6,5 @@ pub mod KeptBegins
 pub mod KeptResets
 pub mod NextLaws
 pub mod ChunkSectors
+pub mod WorkLaws
+pub mod KeptReads
