@@ -8,3 +8,5 @@ pub mod NextLaws
 pub mod ChunkSectors
 pub mod WorkLaws
 pub mod KeptReads
+pub mod CopyBytes
+pub mod CopyPlaces
