@@ -10,3 +10,5 @@ pub mod WorkLaws
 pub mod KeptReads
 pub mod CopyBytes
 pub mod CopyPlaces
+pub mod FixedCopies
+pub mod CopyCalls
