@@ -12,3 +12,4 @@ pub mod CopyBytes
 pub mod CopyPlaces
 pub mod FixedCopies
 pub mod CopyCalls
+pub mod KeptCopies
