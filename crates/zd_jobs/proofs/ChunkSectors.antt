@@ -1,5 +1,5 @@
--- The sectors of a chunk, by their blocks: where they stand among those of the device, and where a job's source has them.
-use Rattle.std.proofs.Common.{◌≡◌, ℕ, ◌+◌, ◌*◌, ◌/◌, ◌%◌, ◌<◌, true, List, Option, Some, sym, ap, ap₂, ◌∙◌, subst, arith}
+-- The sectors of a chunk, by their blocks: where they stand among those of the device, and where a chunk's zones have them.
+use Rattle.std.proofs.Common.{inl, inr, ◌≡◌, ℕ, ◌+◌, ◌*◌, ◌/◌, ◌%◌, ◌<◌, true, List, Option, Some, sym, ap, ap₂, ◌∙◌, subst, arith}
 use Rattle.std.proofs.Math.Nat.{mul-le-mul_right}
 use Rattle.std.proofs.lemmas.Bool.{false_from_ne_true, false≢true}
 use Rattle.std.proofs.lemmas.Nat.{div-add-mod', mod-mul-add}
@@ -9,16 +9,13 @@ use Rattle.zd_model.specs.History.{HistoryEntry}
 use Rattle.zd_model.specs.Image.{Image}
 use Rattle.zd_model.specs.Places.{place_in, spot, zone_at}
 use Rattle.zd_model.specs.Safe.{last_at}
-use Rattle.zd_model.specs.Tables.{entry_of, is_valid}
+use Rattle.zd_model.specs.Tables.{NamesZone, entry_of, is_valid}
 use Rattle.zd_model.specs.declared.metadata.MapEntry.{MapEntry}
-use Rattle.zd_model.proofs.FaultLaws.{none_some}
 use Rattle.zd_model.proofs.ServedLaws.{placed}
-use Rattle.zd_volume.specs.Jobs.{sector_of_chunk, source_of}
+use Rattle.zd_volume.specs.Jobs.{sector_of_chunk}
 use Rattle.zd_volume.specs.LeftImages.{ReadsAs}
 use Rattle.zd_volume.specs.Sets.{AreSets, Sets, device_sectors, new_tables}
 use Rattle.zd_volume.specs.declared.phase.Phase.{Phase}
-use Rattle.zd_volume.specs.declared.work.JobKind.{JobKind}
-use Rattle.zd_volume.specs.declared.work.JobKind.TheVariants.{Empty, Move, Append, Merge}
 use Rattle.zd_volume.proofs.DropCopies.{chunk_of_sector}
 use Rattle.zd_routes.proofs.WritePlaces.{place_buffer, place_zone}
 
@@ -47,48 +44,35 @@ as_chunk_sector g n =
     let blocks = div-add-mod' (n / 8) g.zone_blocks in
     omega (arith, blocks)
 
-module _ (s : Sets) (are : AreSets s) (kind : JobKind) (chunk y x : ℕ)
-    (from : source_of kind (entry_of (new_tables s) chunk) ≡ Some y) (inside : x < s.geometry.zone_blocks)
-    (valid : is_valid (new_tables s) y x ≡ true) where
+module _ (s : Sets) (are : AreSets s) (chunk y x : ℕ) (own : NamesZone (entry_of (new_tables s) chunk) y)
+    (inside : x < s.geometry.zone_blocks) (valid : is_valid (new_tables s) y x ≡ true) where
   abbrev e : MapEntry
   e = entry_of (new_tables s) chunk
 
-  in_zone : (entry_of (new_tables s) chunk).zone ≡ Some y
-      → place_in (new_tables s) (entry_of (new_tables s) chunk) x ≡ Some y
-  in_zone zone = place_zone (new_tables s) x e y zone valid
-
-  in_buffer : (entry_of (new_tables s) chunk).buffer ≡ Some y
-      → place_in (new_tables s) (entry_of (new_tables s) chunk) x ≡ Some y
-  in_buffer buffer =
-      place_buffer (new_tables s) x e y buffer valid (λ z zone.
-      false_from_ne_true (is_valid (new_tables s) z x) (λ also.
-      false≢true (sym (are.new_rules.bits.one_place chunk z y x zone buffer inside also) ∙ valid)))
-
-  -- A VALID BLOCK of a job's source stands there
-  pub source_place : place_in (new_tables s) (entry_of (new_tables s) chunk) x ≡ Some y
-  source_place = by kind from
-    where
-      by : (k : JobKind) → source_of k (entry_of (new_tables s) chunk) ≡ Some y
-          → place_in (new_tables s) (entry_of (new_tables s) chunk) x ≡ Some y
-      by Empty is = absurd (none_some y is)
-      by Move is = in_zone is
-      by Append is = in_buffer is
-      by Merge is = in_zone is
+  -- A VALID BLOCK of one of its zones stands there
+  pub own_place : place_in (new_tables s) (entry_of (new_tables s) chunk) x ≡ Some y
+  own_place = elim own [
+    | inl zone ↦ place_zone (new_tables s) x e y zone valid
+    | inr buffer ↦
+        place_buffer (new_tables s) x e y buffer valid (λ z zone.
+        false_from_ne_true (is_valid (new_tables s) z x) (λ also.
+        false≢true (sym (are.new_rules.bits.one_place chunk z y x zone buffer inside also) ∙ valid)))
+  ]
 
   module _ (j : ℕ) (few : j < 8) where
-    pub source_stands : zone_at s.geometry.zone_blocks (new_tables s) (sector_of_chunk s.geometry chunk x j) ≡ Some y
-    source_stands =
+    pub own_stands : zone_at s.geometry.zone_blocks (new_tables s) (sector_of_chunk s.geometry chunk x j) ≡ Some y
+    own_stands =
         ap₂ (λ (c b : ℕ). place_in (new_tables s) (entry_of (new_tables s) c) b)
         (chunk_of_sector s.geometry chunk x j inside few) (block_of_sector s.geometry chunk x j inside few)
-        ∙ source_place
+        ∙ own_place
 
     -- SO ITS SECTORS have what was there last
-    pub source_last : chunk < s.head.layout.chunks → (p : Phase) (base : List (List ℕ)) (h : List HistoryEntry)
+    pub own_last : chunk < s.head.layout.chunks → (p : Phase) (base : List (List ℕ)) (h : List HistoryEntry)
         (r : Image) → ReadsAs p s base h r
         → r.sector y (8 * x + j) ≡ last_at base h (sector_of_chunk s.geometry chunk x j)
-    source_last there p base h r reads =
+    own_last there p base h r reads =
         sym (ap (λ (i : ℕ). r.sector y i) (spot_of_sector s.geometry chunk x j inside few))
         ∙ sym (placed s.geometry.zone_blocks (new_tables s) r.sector (sector_of_chunk s.geometry chunk x j) y
-        source_stands)
+        own_stands)
         ∙ reads.served (sector_of_chunk s.geometry chunk x j)
         (sector_low s.geometry chunk x j inside few s.head.layout.chunks there)

@@ -27,7 +27,7 @@ use Rattle.zd_volume.proofs.DropUses.{source_named}
 use Rattle.zd_volume.proofs.Still.{faulted_later, kept_still}
 use Rattle.zd_routes.proofs.EdgeKeeps.{kept_merge_failed}
 use Rattle.zd_jobs.specs.JobSteps.{ReadsBlocks, stopped_read}
-use Rattle.zd_jobs.proofs.ChunkSectors.{source_last}
+use Rattle.zd_jobs.proofs.ChunkSectors.{own_last}
 use Rattle.zd_jobs.proofs.WorkLaws.{copies_of, job_of, run_below, told_image, uses_of_job, uses_on}
 
 module _ (from to : PlainVolume) (w : Work) (at count : ℕ) (told : Option Image) (fixed : IsFixed from)
@@ -109,7 +109,8 @@ module _ (from to : PlainVolume) (w : Work) (at count : ℕ) (told : Option Imag
           let place : 8 * at + (8 * (x - at) + j) ≡ 8 * x + j = omega (arith, low) in
           read_piece (8 * (x - at) + j) (omega (arith, low, high, few))
           ∙ ap (r.sector did.run.zone) place
-          ∙ source_last (sets_of from) fixed.sets w.job.kind w.job.chunk did.run.zone x did.run.from
+          ∙ own_last (sets_of from) fixed.sets w.job.chunk did.run.zone x
+          (source_named w.job.kind (entry_of (tables_now from) w.job.chunk) did.run.zone did.run.from)
           (omega (arith, high, end)) (did.run.valid x low high) j few old_job.chunk from.phase base from.history r
           now.read;
     }

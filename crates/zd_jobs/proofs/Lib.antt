@@ -13,3 +13,4 @@ pub mod CopyPlaces
 pub mod FixedCopies
 pub mod CopyCalls
 pub mod KeptCopies
+pub mod EndZones
