@@ -14,3 +14,5 @@ pub mod FixedCopies
 pub mod CopyCalls
 pub mod KeptCopies
 pub mod EndZones
+pub mod RemapTables
+pub mod FixedRemaps
