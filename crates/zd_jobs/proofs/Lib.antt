@@ -16,3 +16,4 @@ pub mod KeptCopies
 pub mod EndZones
 pub mod RemapTables
 pub mod FixedRemaps
+pub mod RemapPlaces
