@@ -17,3 +17,4 @@ pub mod EndZones
 pub mod RemapTables
 pub mod FixedRemaps
 pub mod RemapPlaces
+pub mod KeptRemaps
