@@ -1,12 +1,12 @@
 -- THE ZONES ARE USED RIGHT where a job begins: a zone that a Move has taken is held, and any other target is named.
-use Rattle.std.proofs.Common.{◌≡◌, ◌≢◌, ℕ, ◌<◌, ◌≤◌, List, length, get_or-set_other, get_or-set_same, length-set, Some}
+use Rattle.std.proofs.Common.{◌≡◌, ◌≢◌, ℕ, ◌≤◌, List, length, get_or-set_other, get_or-set_same, length-set, Some}
 use Rattle.std.proofs.Common.{None, inl, inr, refl, sym, ap, ◌∙◌, subst, arith}
 use Rattle.std.proofs.lemmas.Bool.{cases_eq}
 use Rattle.zd_base.specs.Layout.{first_data_zone}
 use Rattle.zd_base.specs.declared.geometry.Kind.TheVariants.{Sequential}
 use Rattle.zd_alloc.specs.Zones.{Division, TakesLeast, use_at}
 use Rattle.zd_alloc.specs.declared.uses.ZoneUse.{ZoneUse}
-use Rattle.zd_alloc.specs.declared.uses.ZoneUse.TheVariants.{Free, Held, Limbo, Meta}
+use Rattle.zd_alloc.specs.declared.uses.ZoneUse.TheVariants.{Held, Meta}
 use Rattle.zd_model.proofs.FaultLaws.{some_is}
 use Rattle.zd_volume.specs.Jobs.{IsNamed}
 use Rattle.zd_volume.specs.Sets.{Sets, new_tables}

@@ -1,9 +1,8 @@
 -- The sectors of a chunk, by their blocks: where they stand among those of the device, and where a chunk's zones have them.
-use Rattle.std.proofs.Common.{inl, inr, ◌≡◌, ℕ, ◌+◌, ◌*◌, ◌/◌, ◌%◌, ◌<◌, true, List, Option, Some, sym, ap, ap₂, ◌∙◌, subst, arith}
+use Rattle.std.proofs.Common.{inl, inr, ◌≡◌, ℕ, ◌+◌, ◌*◌, ◌/◌, ◌%◌, ◌<◌, true, List, Some, sym, ap, ap₂, ◌∙◌, arith}
 use Rattle.std.proofs.Math.Nat.{mul-le-mul_right}
 use Rattle.std.proofs.lemmas.Bool.{false_from_ne_true, false≢true}
 use Rattle.std.proofs.lemmas.Nat.{div-add-mod', mod-mul-add}
-use Rattle.std.specs.Prelude.{IsTrue}
 use Rattle.zd_base.specs.Geometry.{Shape}
 use Rattle.zd_model.specs.History.{HistoryEntry}
 use Rattle.zd_model.specs.Image.{Image}
@@ -14,7 +13,7 @@ use Rattle.zd_model.specs.declared.metadata.MapEntry.{MapEntry}
 use Rattle.zd_model.proofs.ServedLaws.{placed}
 use Rattle.zd_volume.specs.Jobs.{sector_of_chunk}
 use Rattle.zd_volume.specs.LeftImages.{ReadsAs}
-use Rattle.zd_volume.specs.Sets.{AreSets, Sets, device_sectors, new_tables}
+use Rattle.zd_volume.specs.Sets.{AreSets, Sets, new_tables}
 use Rattle.zd_volume.specs.declared.phase.Phase.{Phase}
 use Rattle.zd_volume.proofs.DropCopies.{chunk_of_sector}
 use Rattle.zd_routes.proofs.WritePlaces.{place_buffer, place_zone}

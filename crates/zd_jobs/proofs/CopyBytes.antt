@@ -1,5 +1,5 @@
 -- What a job writes next: so many whole blocks, and where they are valid in its source what was there last.
-use Rattle.std.proofs.Common.{◌≡◌, ◌⊎◌, ℕ, ◌+◌, ◌-◌, ◌*◌, ◌<◌, ◌≤◌, min, true, List, length, take, replicate, Some, inl, inr}
+use Rattle.std.proofs.Common.{◌≡◌, ℕ, ◌+◌, ◌-◌, ◌*◌, ◌<◌, ◌≤◌, true, List, length, take, Some, inl, inr}
 use Rattle.std.proofs.Common.{sym, ap, ◌∙◌, subst, arith, length-take}
 use Rattle.std.proofs.lemmas.Bool.{false≢true}
 use Rattle.std.proofs.lemmas.List.{length-replicate}
@@ -17,15 +17,15 @@ use Rattle.zd_jobs.specs.JobSteps.{WritesCopy}
 use Rattle.zd_jobs.proofs.WorkLaws.{copies_of, job_of}
 
 -- whole blocks, at least one
-pub record AreBlocks (count : ℕ) (bytes : List ℕ) : Type 0 where
+pub record AreWholeBlocks (count : ℕ) (bytes : List ℕ) : Type 0 where
   pub some : 0 < count
   pub size : length bytes ≡ 4096 * count
 
-pub sectors_of_blocks : (count : ℕ) (bytes : List ℕ) → AreBlocks count bytes → count_of bytes ≡ 8 * count
+pub sectors_of_blocks : (count : ℕ) (bytes : List ℕ) → AreWholeBlocks count bytes → count_of bytes ≡ 8 * count
 sectors_of_blocks count bytes are = (let size = are.size in omega (arith, size))
 
 module _ (v : PlainVolume) (w : Work) (fixed : IsFixed v) (is : v.job ≡ Some w) (count : ℕ) (bytes : List ℕ) where
-  pub copy_blocks : WritesCopy v w count bytes → AreBlocks count bytes
+  pub copy_blocks : WritesCopy v w count bytes → AreWholeBlocks count bytes
   copy_blocks (inl read) =
       let some = read.0 in
       let same = read.1 in

@@ -1,5 +1,5 @@
 -- A COPY THAT WAS DONE, in any phase, where the classes change besides: tables, history and phase stay.
-use Rattle.std.proofs.Common.{◌≡◌, ◌≢◌, ℕ, ◌+◌, ◌<◌, ◌≤◌, true, List, Option, Some, None, refl, subst, arith}
+use Rattle.std.proofs.Common.{◌≡◌, ℕ, ◌≤◌, true, List, Option, Some, None, refl, subst, arith}
 use Rattle.zd_base.specs.Geometry.{Shape}
 use Rattle.zd_base.specs.Layout.{first_data_zone}
 use Rattle.zd_alloc.specs.Candidates.{Standings}

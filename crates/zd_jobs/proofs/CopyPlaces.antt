@@ -1,13 +1,13 @@
 -- A COPY PUTS WHAT IS THERE LAST: in a sequential target no table has a sector at or above the pointer; in a buffer the
 -- new tables have none of these blocks, since they are valid in the chunk's zone, and the committed ones those of the
 -- same chunk alone.
-use Rattle.std.proofs.Common.{◌≡◌, ◌⊎◌, ℕ, ◌+◌, ◌-◌, ◌*◌, ◌/◌, ◌%◌, ◌<◌, ◌≤◌, true, List, Option, Some, None, IsSomeAnd}
+use Rattle.std.proofs.Common.{◌≡◌, ℕ, ◌+◌, ◌-◌, ◌*◌, ◌/◌, ◌%◌, ◌<◌, ◌≤◌, true, List, Option, Some, IsSomeAnd}
 use Rattle.std.proofs.Common.{inl, inr, refl, sym, ap, ◌∙◌, subst, arith}
 use Rattle.std.proofs.lemmas.Bool.{cases_lt, false≢true}
 use Rattle.zd_model.specs.Image.{Image}
 use Rattle.zd_model.specs.Places.{spot, zone_at}
 use Rattle.zd_model.specs.Safe.{last_at}
-use Rattle.zd_model.specs.Tables.{MapFollowsRules, NamesZone, Tables, entry_of, is_valid}
+use Rattle.zd_model.specs.Tables.{MapFollowsRules, Tables, entry_of, is_valid}
 use Rattle.zd_model.specs.declared.metadata.MapEntry.{MapEntry}
 use Rattle.zd_model.proofs.FaultLaws.{none_some, some_is}
 use Rattle.zd_disk.specs.OfGeometry.{IsImageOf}
@@ -146,8 +146,8 @@ module _ (v : PlainVolume) (w : Work) (fixed : IsFixed v) (is : v.job ≡ Some w
         (ap (λ (c : ℕ). sector_of_chunk v.geometry c (n / 8 % b) (n % 8)) (sym chunk) ∙ sym (as_chunk_sector v.geometry n))
   ]
 
-  pub puts_last : MayBe v base r → PutsLast v base zone (8 * w.copied) bytes
-  puts_last may = record {
+  pub copy_puts_last : MayBe v base r → PutsLast v base zone (8 * w.copied) bytes
+  copy_puts_last may = record {
     old = λ takes n j low stands few at. last_old (may.below_old takes) n j stands few at;
     new = λ takes n j low stands few at. absurd (none_new n j stands few at);
   }

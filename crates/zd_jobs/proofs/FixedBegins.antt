@@ -1,9 +1,8 @@
 -- WHAT IS TRUE OF A VOLUME'S OWN VALUES stays true where a job begins, with a reset of its target or without one.
-use Rattle.std.proofs.Common.{◌≡◌, ◌≢◌, ℕ, ◌+◌, ◌<◌, ◌≤◌, List, length, set, slice_index, get_or-set_other, get_or-set_same}
+use Rattle.std.proofs.Common.{◌≡◌, ℕ, ◌≤◌, List, length, set, slice_index, get_or-set_other, get_or-set_same}
 use Rattle.std.proofs.Common.{length-set, Option, Some, None, inl, inr, refl, sym, ap, ap₂, ◌∙◌, subst, arith}
 use Rattle.std.proofs.lemmas.Bool.{cases_lt}
 use Rattle.zd_base.specs.Geometry.{zone_count}
-use Rattle.zd_alloc.specs.Candidates.{class_of}
 use Rattle.zd_alloc.specs.Zones.{Division}
 use Rattle.zd_model.specs.Tables.{NamesZone, entry_of}
 use Rattle.zd_model.specs.declared.metadata.MapEntry.{MapEntry}
@@ -14,7 +13,6 @@ use Rattle.zd_volume.specs.Jobs.{FitsEntry, HasTarget, IsJob, class_by, class_in
 use Rattle.zd_volume.specs.Sets.{old_tables}
 use Rattle.zd_volume.specs.Uses.{AreCandidates, AreUsed}
 use Rattle.zd_volume.specs.Volumes.{IsFixed, PlainVolume, sets_of}
-use Rattle.zd_volume.specs.declared.work.Job.{Job}
 use Rattle.zd_volume.specs.declared.work.JobKind.{JobKind}
 use Rattle.zd_volume.specs.declared.work.JobKind.TheVariants.{Empty, Move, Append, Merge}
 use Rattle.zd_volume.specs.declared.work.Work.{Work}
@@ -149,17 +147,17 @@ fixed_begins from to w fixed free possible inside bare did =
 -- with a reset
 module _ (from to : PlainVolume) (w : Work) (zone : ℕ) (fixed : IsFixed from) (free : from.job ≡ None)
     (possible : IsPossible from w.job.chunk w.job.kind) (did : BeginsWithReset from to w.job w zone) where
-  pub begins : BeginsBy from w.job.kind (entry_of (tables_now from) w.job.chunk) w.target w.copied to.division
-  begins =
+  pub begins_taking : BeginsBy from w.job.kind (entry_of (tables_now from) w.job.chunk) w.target w.copied to.division
+  begins_taking =
       subst (λ (kind : JobKind). BeginsBy from kind (entry_of (tables_now from) w.job.chunk) w.target w.copied
       to.division) (sym did.kind) (zone, did.target, did.copied, did.takes)
 
-  pub inside : w.copied ≤ from.geometry.zone_blocks
-  inside = (let none = did.copied in omega (arith, none))
+  pub none_copied : w.copied ≤ from.geometry.zone_blocks
+  none_copied = (let none = did.copied in omega (arith, none))
 
   pub spare_reset : IsSpare (sets_of from) zone × (from.geometry.conv ≤ zone)
   spare_reset =
-      begun_spare from w to.division fixed free possible inside did.read begins
+      begun_spare from w to.division fixed free possible none_copied did.read begins_taking
       (zone, did.target, did.copied, did.takes) zone did.target
 
   -- the class of a chunk that has no buffer depends on no pointer
@@ -189,7 +187,7 @@ module _ (from to : PlainVolume) (w : Work) (zone : ℕ) (fixed : IsFixed from) 
   pub fixed_begins_reset : IsFixed to
   fixed_begins_reset =
       subst IsFixed (sym did.rest)
-      (fixed_begun from w to.division fixed free possible inside did.read begins (set from.pointers zone 0)
+      (fixed_begun from w to.division fixed free possible none_copied did.read begins_taking (set from.pointers zone 0)
       (next_count from.since) (length-set from.pointers zone 0 ∙ fixed.pointers)
       (λ z target high.
       ap (λ (y : ℕ). slice_index (set from.pointers zone 0) y) (some_is z zone (sym target ∙ did.target))

@@ -1,12 +1,9 @@
 -- WHAT IS TRUE OF A VOLUME'S OWN VALUES stays true where blocks were copied to a job's target.
-use Rattle.std.proofs.Common.{◌≡◌, ◌≢◌, ℕ, ◌+◌, ◌<◌, ◌≤◌, Bool, cond, List, length, set, slice_index, Option, Some, None}
-use Rattle.std.proofs.Common.{get_or-set_same, inl, inr, refl, sym, ap, ◌∙◌, subst, arith}
+use Rattle.std.proofs.Common.{◌≡◌, ℕ, ◌+◌, ◌≤◌, Bool, cond, List, set, slice_index, Some}
+use Rattle.std.proofs.Common.{get_or-set_same, refl, sym, ap, ◌∙◌, subst, arith}
 use Rattle.std.proofs.lemmas.Bool.{le-ltb}
-use Rattle.zd_alloc.specs.Candidates.{Standings}
-use Rattle.zd_model.specs.Tables.{NamesZone, entry_of}
 use Rattle.zd_model.proofs.FaultLaws.{some_is}
 use Rattle.zd_disk.specs.Told.{next_count}
-use Rattle.zd_volume.specs.Flights.{tables_now}
 use Rattle.zd_volume.specs.Jobs.{IsJob}
 use Rattle.zd_volume.specs.Uses.{AreCandidates}
 use Rattle.zd_volume.specs.Volumes.{IsFixed, PlainVolume, sets_of}

@@ -12,7 +12,6 @@ use Rattle.zd_model.specs.Tables.{entry_of}
 use Rattle.zd_model.specs.declared.metadata.MapEntry.{MapEntry}
 use Rattle.zd_model.proofs.FaultLaws.{some_is}
 use Rattle.zd_volume.specs.Flights.{tables_now}
-use Rattle.zd_volume.specs.Jobs.{IsNamed}
 use Rattle.zd_volume.specs.Sets.{Sets}
 use Rattle.zd_volume.specs.Uses.{AreCandidates, AreUsed, IsPhase}
 use Rattle.zd_volume.specs.Volumes.{IsFixed, PlainVolume, sets_of}
@@ -24,7 +23,7 @@ use Rattle.zd_routes.proofs.ChunkClasses.{candidates_changed}
 use Rattle.zd_routes.proofs.ChunkUses.{IsUsedAs, used_released}
 use Rattle.zd_jobs.specs.Remaps.{RemapsChunk, leaving, uses_without}
 use Rattle.zd_jobs.proofs.EndZones.{leaving_named, leaving_there}
-use Rattle.zd_jobs.proofs.RemapTables.{bits_beside, leaving_bare, named_before, named_target, named_then, sets_remapped}
+use Rattle.zd_jobs.proofs.RemapTables.{bits_beside, leaving_bare, named_without_target, named_target, named_but_left, sets_remapped}
 use Rattle.zd_jobs.proofs.WorkLaws.{job_of, uses_of_job}
 
 module _ (from to : PlainVolume) (w : Work) (fixed : IsFixed from) (is : from.job ≡ Some w)
@@ -68,18 +67,18 @@ module _ (from to : PlainVolume) (w : Work) (fixed : IsFixed from) (is : from.jo
       );
       free = λ free.
           let bare = was.free z (sym at ∙ free) in
-          (bare.0, (λ n. bare.1 (named_before from to w fixed is did z bare.2 n)), λ t. t);
+          (bare.0, (λ n. bare.1 (named_without_target from to w fixed is did z bare.2 n)), λ t. t);
       limbo = λ limbo.
           let bare = was.limbo z (sym at ∙ limbo) in
-          (bare.0, (λ n. bare.1 (named_before from to w fixed is did z bare.2 n)), λ t. t);
+          (bare.0, (λ n. bare.1 (named_without_target from to w fixed is did z bare.2 n)), λ t. t);
       held = λ held. elim (was.held z (sym at ∙ held)) [
-        | inl n ↦ inl (named_then from to w fixed is did z
+        | inl n ↦ inl (named_but_left from to w fixed is did z
             (λ also. off (some_is z y (sym also ∙ gives))) n)
         | inr target ↦ inl (named_target from to w fixed is did z target)
       ];
       named = λ n. elim (some_or w.target z) [
         | inl target ↦ at ∙ was.target z target
-        | inr apart ↦ at ∙ was.named z (named_before from to w fixed is did z apart n)
+        | inr apart ↦ at ∙ was.named z (named_without_target from to w fixed is did z apart n)
       ];
       target = λ t. absurd t;
     }

@@ -1,17 +1,17 @@
 -- A JOB THAT BEGINS KEEPS A VOLUME, where its target needs no reset. It makes no call.
-use Rattle.std.proofs.Common.{◌≡◌, ◌≢◌, ℕ, ◌+◌, ◌*◌, ◌%◌, ◌<◌, ◌≤◌, List, length, set, slice_index, Some, None, inl, inr}
+use Rattle.std.proofs.Common.{◌≡◌, ℕ, ◌%◌, ◌<◌, ◌≤◌, List, set, Some, None, inl, inr}
 use Rattle.std.proofs.Common.{get_or-set_other, refl, sym, ap, ◌∙◌, subst, arith}
 use Rattle.std.proofs.lemmas.Bool.{cases_eq, false≢true}
 use Rattle.std.specs.Prelude.{IsTrue}
 use Rattle.zd_base.specs.Geometry.{Shape}
-use Rattle.zd_alloc.specs.Zones.{Division, use_at}
+use Rattle.zd_alloc.specs.Zones.{Division}
 use Rattle.zd_alloc.specs.declared.uses.ZoneUse.{ZoneUse}
 use Rattle.zd_alloc.specs.declared.uses.ZoneUse.TheVariants.{Held, Meta}
 use Rattle.zd_model.specs.History.{HistoryEntry}
 use Rattle.zd_model.specs.Image.{Image}
-use Rattle.zd_model.specs.Safe.{base_at, last_at}
+use Rattle.zd_model.specs.Safe.{base_at}
 use Rattle.zd_model.specs.Tables.{entry_of, is_valid}
-use Rattle.zd_model.proofs.FaultLaws.{none_some, some_is}
+use Rattle.zd_model.proofs.FaultLaws.{none_some}
 use Rattle.zd_disk.specs.View.{View}
 use Rattle.zd_volume.specs.Flights.{tables_now}
 use Rattle.zd_volume.specs.Jobs.{AreCopied, source_of}

@@ -1,16 +1,14 @@
 -- BLOCKS THAT WERE COPIED KEEP A VOLUME, in any phase; so does a copy that failed.
-use Rattle.std.proofs.Common.{◌≡◌, ℕ, ◌+◌, ◌-◌, ◌*◌, ◌<◌, ◌≤◌, false, true, List, length, Option, Some, None, inl, inr, refl}
+use Rattle.std.proofs.Common.{◌≡◌, ℕ, ◌+◌, ◌-◌, ◌*◌, ◌<◌, ◌≤◌, false, List, length, Some, None, inl, inr}
 use Rattle.std.proofs.Common.{sym, ap, ◌∙◌, subst, arith}
 use Rattle.std.proofs.lemmas.Bool.{cases_lt}
 use Rattle.std.specs.Prelude.{IsTrue}
-use Rattle.zd_base.specs.declared.numbers.Why.{Why}
 use Rattle.zd_model.specs.Image.{Image}
 use Rattle.zd_model.specs.Safe.{base_at, last_at}
 use Rattle.zd_model.specs.Tables.{entry_of, is_valid}
 use Rattle.zd_model.proofs.FaultLaws.{some_is}
 use Rattle.zd_disk.specs.OfGeometry.{IsImageOf}
 use Rattle.zd_disk.specs.Steps.{WriteLeaves, WriteStep, Wrote, count_of}
-use Rattle.zd_disk.specs.Told.{next_count}
 use Rattle.zd_disk.specs.View.{Calls, HasFailed, Turns, View}
 use Rattle.zd_volume.specs.Flights.{tables_now}
 use Rattle.zd_volume.specs.Jobs.{AreCopied, sector_of_chunk, source_of}
@@ -18,7 +16,7 @@ use Rattle.zd_volume.specs.Volumes.{IsFixed, IsKeptVolume, IsNow, PlainVolume, s
 use Rattle.zd_volume.specs.declared.work.Place.TheVariants.{Main}
 use Rattle.zd_volume.specs.declared.work.Work.{Work}
 use Rattle.zd_volume.proofs.Choices.{some_blocks}
-use Rattle.zd_volume.proofs.DataSteps.{NowAfter, kept_copy}
+use Rattle.zd_volume.proofs.DataSteps.{kept_copy}
 use Rattle.zd_volume.proofs.InPhases.{both_at}
 use Rattle.zd_volume.proofs.PlaceLaws.{below_wrote, content_wrote}
 use Rattle.zd_routes.specs.Routes.{pointers_with}
@@ -26,7 +24,7 @@ use Rattle.zd_routes.proofs.WritePointers.{pointers_written, whole_written}
 use Rattle.zd_jobs.specs.JobSteps.{WritesBlocksOn, WritesCopy, stopped_call}
 use Rattle.zd_jobs.proofs.CopyBytes.{copy_blocks, copy_inside, copy_last, sectors_of_blocks}
 use Rattle.zd_jobs.proofs.CopyCalls.{after_copy, kept_copied}
-use Rattle.zd_jobs.proofs.CopyPlaces.{none_new, puts_last}
+use Rattle.zd_jobs.proofs.CopyPlaces.{none_new, copy_puts_last}
 use Rattle.zd_jobs.proofs.DataReads.{reads_data}
 use Rattle.zd_jobs.proofs.FixedCopies.{fixed_after_copy}
 use Rattle.zd_jobs.proofs.WorkLaws.{copies_of, starts_at_copied, target_far, told_image}
@@ -120,7 +118,7 @@ kept_copy_write from to w zone count bytes opening u x runs was is copy did turn
     (Wrote zone (8 * w.copied) bytes) turns zone (8 * w.copied) bytes
     (target_far from w was.fixed is zone did.target)
     (λ r there now may.
-    puts_last from w was.fixed is zone did.target count bytes copy (base_at opening.zones) r
+    copy_puts_last from w was.fixed is zone did.target count bytes copy (base_at opening.zones) r
     (told_image from opening u was r there) now may)
     (λ r there now high. starts_at_copied from w was.fixed is (base_at opening.zones) r now zone did.target high) call)
 
@@ -147,6 +145,6 @@ kept_copy_write_failed from w zone count bytes buffer R opening u x runs was is 
     (λ no. absurd (let f : ⊥ = cc in f)) (λ _. failed) R turns zone (8 * w.copied) bytes
     (target_far from w was.fixed is zone target)
     (λ r there now may.
-    puts_last from w was.fixed is zone target count bytes copy (base_at opening.zones) r
+    copy_puts_last from w was.fixed is zone target count bytes copy (base_at opening.zones) r
     (told_image from opening u was r there) now may)
     (λ r there now high. starts_at_copied from w was.fixed is (base_at opening.zones) r now zone target high) call

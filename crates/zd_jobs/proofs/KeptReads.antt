@@ -1,26 +1,19 @@
 -- A RUN THAT WAS READ KEEPS A VOLUME, in any phase: the copy buffer has what was there last. So does a call that failed.
-use Rattle.std.proofs.Common.{◌≡◌, ℕ, ◌+◌, ◌-◌, ◌*◌, ◌/◌, ◌<◌, ◌≤◌, false, true, List, length, take, slice_index, Option, Some, None}
+use Rattle.std.proofs.Common.{◌≡◌, ℕ, ◌+◌, ◌-◌, ◌*◌, ◌<◌, ◌≤◌, true, List, length, take, Option, Some, None}
 use Rattle.std.proofs.Common.{inl, inr, refl, sym, ap, ◌∙◌, subst, arith}
 use Rattle.std.proofs.lemmas.Bool.{cases_lt, false≢true}
 use Rattle.std.specs.Prelude.{IsTrue}
-use Rattle.zd_base.specs.Geometry.{Shape, zone_count}
-use Rattle.zd_base.specs.Layout.{first_data_zone}
-use Rattle.zd_alloc.specs.Zones.{Division}
-use Rattle.zd_model.specs.History.{HistoryEntry}
-use Rattle.zd_model.specs.Image.{Image, run_of}
-use Rattle.zd_model.specs.Safe.{base_at, last_at}
+use Rattle.zd_model.specs.Image.{Image}
+use Rattle.zd_model.specs.Safe.{base_at}
 use Rattle.zd_model.specs.Tables.{entry_of, is_valid}
 use Rattle.zd_model.proofs.FaultLaws.{some_is}
 use Rattle.zd_disk.specs.OfGeometry.{IsImageOf}
 use Rattle.zd_disk.specs.Steps.{piece}
 use Rattle.zd_disk.specs.View.{HasFailed, OnlyReads, View}
 use Rattle.zd_disk.proofs.StepLaws.{piece-take}
-use Rattle.zd_disk.proofs.ToldLaws.{Some-same}
 use Rattle.zd_sets.proofs.MixLaws.{piece_at}
 use Rattle.zd_volume.specs.Flights.{tables_now}
-use Rattle.zd_volume.specs.Jobs.{AreCopied, HasCopies, IsJob, IsJobOrNone, sector_of_chunk, source_of}
-use Rattle.zd_volume.specs.Sets.{Sets}
-use Rattle.zd_volume.specs.Uses.{AreUsed}
+use Rattle.zd_volume.specs.Jobs.{AreCopied, IsJob, source_of}
 use Rattle.zd_volume.specs.Volumes.{IsFixed, IsKeptVolume, IsNow, PlainVolume, sets_of}
 use Rattle.zd_volume.specs.declared.work.Work.{Work}
 use Rattle.zd_volume.proofs.DropUses.{source_named}

@@ -1,8 +1,7 @@
 -- THE END OF A JOB KEEPS A VOLUME: in Idle, where all is copied. It makes no call.
-use Rattle.std.proofs.Common.{◌≡◌, ℕ, ◌<◌, ◌≤◌, false, List, Option, Some, None, refl, sym, subst, arith}
+use Rattle.std.proofs.Common.{◌≡◌, ℕ, false, List, Some, None, refl, sym, subst, arith}
 use Rattle.std.specs.Prelude.{get_or}
 use Rattle.zd_alloc.specs.declared.uses.ZoneUse.{ZoneUse}
-use Rattle.zd_model.specs.History.{HistoryEntry}
 use Rattle.zd_model.specs.Image.{Image}
 use Rattle.zd_model.specs.Safe.{base_at}
 use Rattle.zd_model.specs.Tables.{entry_of}

@@ -1,6 +1,6 @@
 -- A JOB THAT BEGINS WITH A RESET KEEPS A VOLUME, in any phase; so does a reset that failed: no table names the zone.
-use Rattle.std.proofs.Common.{◌≡◌, ◌≢◌, ℕ, ◌*◌, ◌/◌, ◌%◌, ◌<◌, ◌≤◌, false, true, List, length, set, slice_index, Option, Some}
-use Rattle.std.proofs.Common.{None, inl, inr, get_or-set_other, get_or-set_same, refl, sym, ap, ◌∙◌, subst, arith}
+use Rattle.std.proofs.Common.{◌≡◌, ◌≢◌, ℕ, ◌/◌, ◌%◌, ◌<◌, false, true, List, length, set, slice_index, Option, Some}
+use Rattle.std.proofs.Common.{None, inl, inr, get_or-set_other, get_or-set_same, sym, ap, ◌∙◌, subst, arith}
 use Rattle.std.proofs.lemmas.Bool.{cases_eq}
 use Rattle.std.specs.Prelude.{IsTrue}
 use Rattle.zd_base.specs.Geometry.{Shape, zone_count}
@@ -12,8 +12,7 @@ use Rattle.zd_alloc.specs.declared.uses.ZoneUse.{ZoneUse}
 use Rattle.zd_model.specs.Image.{Image}
 use Rattle.zd_model.specs.Places.{zone_at}
 use Rattle.zd_model.specs.Safe.{base_at}
-use Rattle.zd_model.specs.Tables.{Tables, is_valid}
-use Rattle.zd_disk.specs.OfGeometry.{IsImageOf}
+use Rattle.zd_model.specs.Tables.{is_valid}
 use Rattle.zd_disk.specs.Steps.{ResetLeaves, ResetStep, WasReset}
 use Rattle.zd_disk.specs.Told.{next_count}
 use Rattle.zd_disk.specs.View.{Calls, HasFailed, Turns, View}
@@ -21,8 +20,7 @@ use Rattle.zd_tables.specs.Rules.{FollowRules}
 use Rattle.zd_tables.specs.Tables.{tables_in}
 use Rattle.zd_volume.specs.Flights.{tables_now}
 use Rattle.zd_volume.specs.Jobs.{IsNamed}
-use Rattle.zd_volume.specs.Sets.{new_tables, old_tables}
-use Rattle.zd_volume.specs.Volumes.{HasPointers, IsFixed, IsKeptVolume, IsNow, IsWhole, PlainVolume, sets_of}
+use Rattle.zd_volume.specs.Volumes.{HasPointers, IsFixed, IsKeptVolume, IsWhole, PlainVolume, sets_of}
 use Rattle.zd_volume.specs.declared.work.Job.{Job}
 use Rattle.zd_volume.specs.declared.work.Work.{Work}
 use Rattle.zd_volume.proofs.Choices.{some_blocks}
@@ -31,10 +29,10 @@ use Rattle.zd_volume.proofs.InPhases.{both_at}
 use Rattle.zd_volume.proofs.PlaceLaws.{below_apart, content_apart, named_place}
 use Rattle.zd_routes.specs.Changes.{IsSpare}
 use Rattle.zd_routes.proofs.GoalLaws.{free_spare}
-use Rattle.zd_jobs.specs.JobSteps.{BeginsBy, BeginsWithReset, stopped_call}
+use Rattle.zd_jobs.specs.JobSteps.{BeginsWithReset, stopped_call}
 use Rattle.zd_jobs.specs.Possible.{IsPossible}
 use Rattle.zd_jobs.proofs.DataReads.{reads_data}
-use Rattle.zd_jobs.proofs.FixedBegins.{begins, fixed_begins_reset, inside, spare_reset}
+use Rattle.zd_jobs.proofs.FixedBegins.{begins_taking, fixed_begins_reset, none_copied, spare_reset}
 use Rattle.zd_jobs.proofs.KeptBegins.{copies_begun, whole_taken}
 
 -- A ZONE THAT NO TABLE NAMES has no sector and no valid block
@@ -128,8 +126,8 @@ module _ (from to : PlainVolume) (w : Work) (zone : ℕ) (opening u x : View) (r
             (whole_taken from.geometry from.division.zones zone j (ap (λ (n : ℕ). n % 8) reset.zone)
             (whole_reset from.geometry from.division.zones zone r j reset now.whole));
         copies = copies_begun from w to.division possible
-            (inside from to w zone was.fixed free possible did) did.read
-            (begins from to w zone was.fixed free possible did) base from.history j;
+            (none_copied from to w zone was.fixed free possible did) did.read
+            (begins_taking from to w zone was.fixed free possible did) base from.history j;
       }
 
   kept_begun_reset : Calls (λ _. ResetStep zone) (λ _ j. ResetLeaves j zone) u x → IsKeptVolume to opening x

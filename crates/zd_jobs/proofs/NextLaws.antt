@@ -1,5 +1,5 @@
 -- THE NEXT STEP OF A JOB: there is one, and one alone.
-use Rattle.std.proofs.Common.{◌≡◌, ◌⊎◌, ℕ, zero, suc, ◌+◌, ◌-◌, ◌<◌, ◌≤◌, Bool, true, false, Option, Some, None, inl, inr}
+use Rattle.std.proofs.Common.{◌≡◌, ◌⊎◌, ℕ, zero, suc, ◌+◌, ◌-◌, ◌<◌, ◌≤◌, true, false, Option, Some, None, inl, inr}
 use Rattle.std.proofs.Common.{refl, sym, ap, ◌∙◌, subst, arith}
 use Rattle.std.proofs.lemmas.Bool.{cases_Bool, cases_eq, cases_lt, false≢true}
 use Rattle.std.specs.List.{find, range_with_len}
@@ -99,19 +99,9 @@ module _ (v : PlainVolume) (w : Work) where
       → at + count ≤ v.geometry.zone_blocks
       → ((x : ℕ) → at ≤ x → x < at + count → is_valid (tables_now v) left.zone x ≡ true)
       → (m : ℕ) × IsNextRun v w at m
-  longest_from at left zero count sum some inside valid = (count, record {
-    zone = left.zone;
-    from = left.from;
-    later = left.later;
-    some = some;
-    few = omega (arith, sum);
-    inside = inside;
-    first = left.first;
-    valid = valid;
-    longest = λ less _. absurd (let f : ⊥ = omega (arith, sum, less) in f);
-  })
-  longest_from at left (suc fuel) count sum some inside valid = elim (cases_lt (at + count) v.geometry.zone_blocks) [
-    | inr end ↦ (count, record {
+  longest_from at left zero count sum some inside valid = (
+    count,
+    record {
       zone = left.zone;
       from = left.from;
       later = left.later;
@@ -120,16 +110,13 @@ module _ (v : PlainVolume) (w : Work) where
       inside = inside;
       first = left.first;
       valid = valid;
-      longest = λ _ more. absurd (let f : ⊥ = omega (arith, end, more) in f);
-    })
-    | inl more ↦ elim (cases_Bool (is_valid (tables_now v) left.zone (at + count))) [
-      | inl also ↦
-          longest_from at left fuel (count + 1) (omega (arith, sum)) (omega arith) (omega (arith, more))
-          (λ x low high. elim (cases_eq x (at + count)) [
-            | inl here ↦ ap (is_valid (tables_now v) left.zone) here ∙ also
-            | inr off ↦ valid x low (omega (arith, high, off))
-          ])
-      | inr ends ↦ (count, record {
+      longest = λ less _. absurd (let f : ⊥ = omega (arith, sum, less) in f);
+    },
+  )
+  longest_from at left (suc fuel) count sum some inside valid = elim (cases_lt (at + count) v.geometry.zone_blocks) [
+    | inr end ↦ (
+      count,
+      record {
         zone = left.zone;
         from = left.from;
         later = left.later;
@@ -138,8 +125,30 @@ module _ (v : PlainVolume) (w : Work) where
         inside = inside;
         first = left.first;
         valid = valid;
-        longest = λ _ _. ends;
-      })
+        longest = λ _ more. absurd (let f : ⊥ = omega (arith, end, more) in f);
+      },
+    )
+    | inl more ↦ elim (cases_Bool (is_valid (tables_now v) left.zone (at + count))) [
+      | inl also ↦
+          longest_from at left fuel (count + 1) (omega (arith, sum)) (omega arith) (omega (arith, more))
+          (λ x low high. elim (cases_eq x (at + count)) [
+            | inl here ↦ ap (is_valid (tables_now v) left.zone) here ∙ also
+            | inr off ↦ valid x low (omega (arith, high, off))
+          ])
+      | inr ends ↦ (
+        count,
+        record {
+          zone = left.zone;
+          from = left.from;
+          later = left.later;
+          some = some;
+          few = omega (arith, sum);
+          inside = inside;
+          first = left.first;
+          valid = valid;
+          longest = λ _ _. ends;
+        },
+      )
     ]
   ]
 
@@ -197,16 +206,19 @@ module _ (v : PlainVolume) (w : Work) where
           found in
           let low = passes.1 in
           let high = passes.2 in
-          inl (at, record {
-            zone = zone;
-            from = from;
-            later = low;
-            inside = omega (arith, low, high);
-            first = λ x low before.
-                before_found (is_valid (tables_now v) zone) w.copied (v.geometry.zone_blocks - w.copied) at x found low
-                before;
-            valid = passes.0;
-          })
+          inl (
+            at,
+            record {
+              zone = zone;
+              from = from;
+              later = low;
+              inside = omega (arith, low, high);
+              first = λ x low before.
+                  before_found (is_valid (tables_now v) zone) w.copied (v.geometry.zone_blocks - w.copied) at x found low
+                  before;
+              valid = passes.0;
+            },
+          )
 
   -- THERE IS A NEXT STEP
   pub next_there : (next : StepKind) × IsNextOf v w next

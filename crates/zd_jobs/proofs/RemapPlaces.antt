@@ -1,12 +1,10 @@
 -- WHERE A JOB ENDS each sector of the device is as it was: what stood in the zone that is given back stands at the
 -- target, all others stand where they stood.
-use Rattle.std.proofs.Common.{◌≡◌, ◌≢◌, ◌⊎◌, ℕ, ◌+◌, ◌*◌, ◌/◌, ◌%◌, ◌<◌, ◌≤◌, Bool, true, false, ◌||◌, List, Option, Some}
-use Rattle.std.proofs.Common.{None, inl, inr, refl, sym, ap, ap₂, ◌∙◌, subst, arith}
-use Rattle.std.proofs.lemmas.Bool.{cases_Bool, cases_eq, cases_lt, false_from_ne_true, false≢true, or_cases}
-use Rattle.std.specs.Prelude.{IsTrue}
-use Rattle.zd_model.specs.History.{HistoryEntry}
+use Rattle.std.proofs.Common.{◌≡◌, ◌≢◌, ℕ, ◌/◌, ◌%◌, ◌<◌, Bool, true, false, ◌||◌, List, Some}
+use Rattle.std.proofs.Common.{None, inl, inr, refl, sym, ap, ◌∙◌, subst, arith}
+use Rattle.std.proofs.lemmas.Bool.{cases_Bool, cases_eq, cases_lt, false≢true, or_cases}
 use Rattle.zd_model.specs.Image.{Image}
-use Rattle.zd_model.specs.Places.{place_in, spot, zone_at}
+use Rattle.zd_model.specs.Places.{place_in, zone_at}
 use Rattle.zd_model.specs.Safe.{last_at}
 use Rattle.zd_model.specs.Tables.{NamesZone, Tables, entry_of, is_valid}
 use Rattle.zd_model.specs.declared.metadata.MapEntry.{MapEntry}

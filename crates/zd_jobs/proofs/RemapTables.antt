@@ -1,12 +1,12 @@
 -- THE RULES OF THE TABLES ARE KEPT where a job ends: its chunk has the target for its zone.
-use Rattle.std.proofs.Common.{◌≡◌, ◌≢◌, ℕ, ◌<◌, false, List, length, Option, Some, None, inl, inr, refl, sym, ap, ◌∙◌}
+use Rattle.std.proofs.Common.{◌≡◌, ◌≢◌, ℕ, Some, None, inl, inr, sym}
 use Rattle.std.proofs.lemmas.Bool.{cases_eq}
 use Rattle.zd_model.specs.Tables.{NamesZone, entry_of, is_valid}
 use Rattle.zd_model.specs.declared.metadata.MapEntry.{MapEntry}
 use Rattle.zd_model.proofs.FaultLaws.{none_some}
 use Rattle.zd_volume.specs.Flights.{tables_now}
 use Rattle.zd_volume.specs.Jobs.{IsJob, IsNamed}
-use Rattle.zd_volume.specs.Sets.{AreSets, Sets, old_tables}
+use Rattle.zd_volume.specs.Sets.{AreSets, Sets}
 use Rattle.zd_volume.specs.Volumes.{IsFixed, PlainVolume, sets_of}
 use Rattle.zd_volume.specs.declared.work.Work.{Work}
 use Rattle.zd_routes.specs.Changes.{ChangesChunk, MayHave}
@@ -87,18 +87,18 @@ module _ (from to : PlainVolume) (w : Work) (fixed : IsFixed from) (is : from.jo
   pub named_target : (z : ℕ) → w.target ≡ Some z → IsNamed (tables_now (record from { fresh = to.fresh })) z
   named_target z target = named_here s fixed.sets w.job.chunk entry to.fresh may_remap remap_changes z (inl target)
 
-  pub named_then : (z : ℕ) → leaving w.job.kind (entry_of (tables_now from) w.job.chunk) ≢ Some z
+  pub named_but_left : (z : ℕ) → leaving w.job.kind (entry_of (tables_now from) w.job.chunk) ≢ Some z
       → IsNamed (tables_now from) z → IsNamed (tables_now (record from { fresh = to.fresh })) z
-  named_then z stays n =
+  named_but_left z stays n =
       named_still s fixed.sets w.job.chunk entry to.fresh may_remap remap_changes z
       (λ own. elim (target_or_leaving s fixed.sets from.pointers w job z own) [
         | inl target ↦ inl target
         | inr left ↦ absurd (stays left)
       ]) n
 
-  pub named_before : (z : ℕ) → w.target ≢ Some z → IsNamed (tables_now (record from { fresh = to.fresh })) z
+  pub named_without_target : (z : ℕ) → w.target ≢ Some z → IsNamed (tables_now (record from { fresh = to.fresh })) z
       → IsNamed (tables_now from) z
-  named_before z apart n =
+  named_without_target z apart n =
       elim (named_by s fixed.sets w.job.chunk entry to.fresh may_remap remap_changes n.0 z n.1) [
         | inl here ↦ elim here.1 [ inl target ↦ absurd (apart target) | inr none ↦ absurd (none_some z none) ]
         | inr there ↦ (n.0, there.1)

@@ -1,5 +1,5 @@
 -- The job under way: what is known of it, and of the zones from which and to which it copies.
-use Rattle.std.proofs.Common.{◌≡◌, ℕ, ◌+◌, ◌-◌, ◌*◌, ◌<◌, ◌≤◌, List, slice_index, Option, Some, None, inl, inr, sym, ap}
+use Rattle.std.proofs.Common.{◌≡◌, ℕ, ◌+◌, ◌-◌, ◌*◌, ◌<◌, ◌≤◌, List, Option, Some, None, inl, inr, sym, ap}
 use Rattle.std.proofs.Common.{◌∙◌, subst, arith}
 use Rattle.std.proofs.lemmas.Bool.{cases_lt}
 use Rattle.zd_base.specs.Geometry.{Shape, zone_count}
@@ -23,7 +23,7 @@ use Rattle.zd_volume.specs.declared.work.JobKind.TheVariants.{Empty, Move, Appen
 use Rattle.zd_volume.specs.declared.work.Work.{Work}
 use Rattle.zd_volume.proofs.DropUses.{source_named}
 use Rattle.zd_volume.proofs.JobLaws.{target_data}
-use Rattle.zd_jobs.specs.NextSteps.{IsNextRun}
+use Rattle.zd_jobs.specs.NextSteps.{IsNextRun, source}
 
 -- zones are used as before beside a job that goes on
 pub uses_on : (s : Sets) (old new : Work) (d : Division) → new.target ≡ old.target → AreUsed s (Some old) d
@@ -73,6 +73,12 @@ module _ (v : PlainVolume) (w : Work) (fixed : IsFixed v) (is : v.job ≡ Some w
       by Append has = (fixed.sets.new_rules.map.data_zones w.job.chunk z (inl (sym has ∙ target))).1
       by Merge has = (fixed.sets.new_rules.map.data_zones w.job.chunk z (inr (sym has ∙ target))).1
 
+  -- THE SOURCE too
+  pub source_low : (y : ℕ) → source v w ≡ Some y → y < zone_count v.geometry
+  source_low y from =
+      (fixed.sets.new_rules.map.data_zones w.job.chunk y
+      (source_named w.job.kind (entry_of (tables_now v) w.job.chunk) y from)).1
+
   module _ (base : List (List ℕ)) (r : Image) (now : IsNow v base r) where
     pub copies_of : AreCopied (sets_of v) v.buffer w base v.history r
     copies_of = subst (λ (job : Option Work). HasCopies (sets_of v) v.buffer job base v.history r) is now.copies
@@ -98,9 +104,7 @@ module _ (v : PlainVolume) (w : Work) (fixed : IsFixed v) (is : v.job ≡ Some w
       | inr seq ↦
           let end = run.inside in
           let some = run.some in
-          let low =
-          (fixed.sets.new_rules.map.data_zones w.job.chunk run.zone
-          (source_named w.job.kind (entry_of (tables_now v) w.job.chunk) run.zone run.from)).1 in
+          let low = source_low run.zone run.from in
           let last = run.valid (at + count - 1) (omega (arith, some)) (omega (arith, some)) in
           let under = now.read.below run.zone (at + count - 1) seq low (omega (arith, some, end)) last in
           omega (arith, some, under)

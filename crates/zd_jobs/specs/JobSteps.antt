@@ -1,13 +1,11 @@
 -- What the steps of a job make of a volume's values, but for the last one.
-use Rattle.std.specs.Prelude.{◌≡◌, ◌⊎◌, ℕ, ◌+◌, ◌*◌, ◌<◌, ◌≤◌, List, length, slice_index, slice_index_or, take, replicate, set}
+use Rattle.std.specs.Prelude.{◌≡◌, ◌⊎◌, ℕ, ◌+◌, ◌*◌, ◌<◌, List, length, slice_index, take, replicate, set}
 use Rattle.std.specs.Prelude.{Option, Some, None}
 use Rattle.zd_base.specs.declared.geometry.Kind.TheVariants.{Sequential}
 use Rattle.zd_base.specs.declared.numbers.Why.{Why}
 use Rattle.zd_alloc.specs.Candidates.{GivesClass}
-use Rattle.zd_alloc.specs.Zones.{Division, IsLeastOf, TakesLeast}
-use Rattle.zd_disk.specs.Steps.{piece}
+use Rattle.zd_alloc.specs.Zones.{Division, TakesLeast}
 use Rattle.zd_disk.specs.Told.{WhereTold, next_count}
-use Rattle.zd_disk.specs.View.{View}
 use Rattle.zd_model.specs.Image.{Image, run_of}
 use Rattle.zd_model.specs.Tables.{entry_of}
 use Rattle.zd_model.specs.declared.metadata.MapEntry.{MapEntry}

@@ -1,5 +1,5 @@
 -- The step of a job that comes next.
-use Rattle.std.specs.Prelude.{◌≡◌, ◌≢◌, ◌⊎◌, ℕ, ◌+◌, ◌-◌, ◌<◌, ◌≤◌, min, true, false}
+use Rattle.std.specs.Prelude.{◌≡◌, ◌⊎◌, ℕ, ◌+◌, ◌-◌, ◌<◌, ◌≤◌, min, true, false}
 use Rattle.std.specs.Prelude.{Option, Some, None}
 use Rattle.zd_base.specs.declared.steps.StepKind.{StepKind}
 use Rattle.zd_model.specs.Tables.{entry_of, is_valid}
