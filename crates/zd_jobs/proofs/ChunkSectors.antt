@@ -1,4 +1,5 @@
--- The sectors of a chunk, by their blocks: where they stand among those of the device, and where a chunk's zones have them.
+-- The sectors of a chunk, by their blocks: where they stand among those of the device, and where the chunk's zones have
+-- them.
 use Rattle.std.proofs.Common.{inl, inr, ◌≡◌, ℕ, ◌+◌, ◌*◌, ◌/◌, ◌%◌, ◌<◌, true, List, Some, sym, ap, ap₂, ◌∙◌, arith}
 use Rattle.std.proofs.Math.Nat.{mul-le-mul_right}
 use Rattle.std.proofs.lemmas.Bool.{false_from_ne_true, false≢true}
@@ -38,7 +39,8 @@ module _ (g : Shape) (chunk x j : ℕ) (inside : x < g.zone_blocks) (few : j < 8
       omega (arith, up, split, inside, few)
 
 -- and each sector is that of a block of its chunk
-pub as_chunk_sector : (g : Shape) (n : ℕ) → n ≡ sector_of_chunk g (n / 8 / g.zone_blocks) (n / 8 % g.zone_blocks) (n % 8)
+pub as_chunk_sector : (g : Shape) (n : ℕ)
+    → n ≡ sector_of_chunk g (n / 8 / g.zone_blocks) (n / 8 % g.zone_blocks) (n % 8)
 as_chunk_sector g n =
     let blocks = div-add-mod' (n / 8) g.zone_blocks in
     omega (arith, blocks)

@@ -34,7 +34,8 @@ module _ (v : PlainVolume) (w : Work) (fixed : IsFixed v) (is : v.job ≡ Some w
       let taken = length-take (4096 * count) v.buffer in
       record {
         some = omega (arith, some, same);
-        size = ap (λ (xs : List ℕ). length xs) read.2 ∙ (let whole : length (take (4096 * count) v.buffer) ≡ 4096 * count =
+        size = ap (λ (xs : List ℕ). length xs) read.2
+            ∙ (let whole : length (take (4096 * count) v.buffer) ≡ 4096 * count =
             omega (arith, taken, room, few, same) in whole);
       }
   copy_blocks (inr gap) =

@@ -26,7 +26,7 @@ use Rattle.zd_volume.proofs.PlaceLaws.{cases_place, held_place, named_place}
 use Rattle.zd_jobs.specs.JobSteps.{WritesCopy}
 use Rattle.zd_jobs.proofs.ChunkSectors.{as_chunk_sector}
 use Rattle.zd_jobs.proofs.CopyBytes.{copy_blocks, copy_last, sectors_of_blocks}
-use Rattle.zd_jobs.proofs.WorkLaws.{job_of, starts_at_copied}
+use Rattle.zd_jobs.proofs.WorkLaws.{job_of, copied_at_pointer}
 
 module _ (v : PlainVolume) (w : Work) (fixed : IsFixed v) (is : v.job ≡ Some w) (zone : ℕ)
     (target : w.target ≡ Some zone) (count : ℕ) (bytes : List ℕ) (copy : WritesCopy v w count bytes)
@@ -44,7 +44,7 @@ module _ (v : PlainVolume) (w : Work) (fixed : IsFixed v) (is : v.job ≡ Some w
   none_above high t rules below n j stands at =
       let held = held_place v.geometry v.head.layout (some_blocks (sets_of v) fixed.sets) t rules r of below n zone
       stands in
-      let start = starts_at_copied v w fixed is base r now zone target high in
+      let start = copied_at_pointer v w fixed is base r now zone target high in
       omega (arith, held, start, at)
 
   -- A CONVENTIONAL TARGET is a buffer, into which a Merge copies what is valid in its chunk's zone
@@ -143,7 +143,8 @@ module _ (v : PlainVolume) (w : Work) (fixed : IsFixed v) (is : v.job ≡ Some w
         ∙ copy_last v w fixed is count bytes copy base r now source.0 (n / 8 % b) (n % 8) source.2 from end
         (valid_there low source.0 (n / 8 % b) source.2 from end) (omega arith)
         ∙ ap (last_at base v.history)
-        (ap (λ (c : ℕ). sector_of_chunk v.geometry c (n / 8 % b) (n % 8)) (sym chunk) ∙ sym (as_chunk_sector v.geometry n))
+        (ap (λ (c : ℕ). sector_of_chunk v.geometry c (n / 8 % b) (n % 8)) (sym chunk)
+        ∙ sym (as_chunk_sector v.geometry n))
   ]
 
   pub copy_puts_last : MayBe v base r → PutsLast v base zone (8 * w.copied) bytes

@@ -1,6 +1,6 @@
 -- WHAT IS TRUE OF A VOLUME'S OWN VALUES stays true where a job ends: the zone that is given back is released.
-use Rattle.std.proofs.Common.{◌≡◌, ◌≢◌, ℕ, ◌<◌, ◌≤◌, false, List, length, get_or, get_or-set_other, get_or-set_same, length-set}
-use Rattle.std.proofs.Common.{Option, Some, None, inl, inr, refl, sym, ap, ◌∙◌, subst, arith}
+use Rattle.std.proofs.Common.{◌≡◌, ◌≢◌, ℕ, ◌<◌, ◌≤◌, false, List, length, get_or, get_or-set_other}
+use Rattle.std.proofs.Common.{get_or-set_same, length-set, Option, Some, None, inl, inr, refl, sym, ap, ◌∙◌, subst, arith}
 use Rattle.std.proofs.lemmas.Bool.{cases_eq}
 use Rattle.std.specs.Prelude.{set}
 use Rattle.zd_base.specs.Geometry.{zone_count}
@@ -23,7 +23,8 @@ use Rattle.zd_routes.proofs.ChunkClasses.{candidates_changed}
 use Rattle.zd_routes.proofs.ChunkUses.{IsUsedAs, used_released}
 use Rattle.zd_jobs.specs.Remaps.{RemapsChunk, leaving, uses_without}
 use Rattle.zd_jobs.proofs.EndZones.{leaving_named, leaving_there}
-use Rattle.zd_jobs.proofs.RemapTables.{bits_beside, leaving_bare, named_without_target, named_target, named_but_left, sets_remapped}
+use Rattle.zd_jobs.proofs.RemapTables.{bits_beside, leaving_bare, named_but_left, named_target}
+use Rattle.zd_jobs.proofs.RemapTables.{named_without_target, sets_remapped}
 use Rattle.zd_jobs.proofs.WorkLaws.{job_of, uses_of_job}
 
 module _ (from to : PlainVolume) (w : Work) (fixed : IsFixed from) (is : from.job ≡ Some w)

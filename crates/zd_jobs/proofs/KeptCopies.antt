@@ -27,7 +27,7 @@ use Rattle.zd_jobs.proofs.CopyCalls.{after_copy, kept_copied}
 use Rattle.zd_jobs.proofs.CopyPlaces.{none_new, copy_puts_last}
 use Rattle.zd_jobs.proofs.DataReads.{reads_data}
 use Rattle.zd_jobs.proofs.FixedCopies.{fixed_after_copy}
-use Rattle.zd_jobs.proofs.WorkLaws.{copies_of, starts_at_copied, target_far, told_image}
+use Rattle.zd_jobs.proofs.WorkLaws.{copies_of, copied_at_pointer, target_far, told_image}
 
 -- ONE IMAGE, after the blocks were written
 module _ (v : PlainVolume) (w : Work) (fixed : IsFixed v) (is : v.job ≡ Some w) (zone : ℕ)
@@ -79,9 +79,10 @@ module _ (v : PlainVolume) (w : Work) (fixed : IsFixed v) (is : v.job ≡ Some w
       let rules = fixed.sets.new_rules.map in
       let sectors = sectors in
       let whole : 8 * w.copied + count_of bytes ≡ 8 * (w.copied + count) = omega (arith, sectors) in
-      let pointer = starts_at_copied v w fixed is base r now zone target in
+      let pointer = copied_at_pointer v w fixed is base r now zone target in
       record {
-        read = reads_data (sets_of v) fixed.sets v.phase base v.history r j of zone (target_far v w fixed is zone target)
+        read = reads_data (sets_of v) fixed.sets v.phase base v.history r j of zone
+            (target_far v w fixed is zone target)
             wrote.geometry wrote.others
             (below_wrote v.geometry v.head.layout some (tables_now v) rules r j of now.read.below zone (8 * w.copied)
             bytes wrote)
@@ -120,7 +121,7 @@ kept_copy_write from to w zone count bytes opening u x runs was is copy did turn
     (λ r there now may.
     copy_puts_last from w was.fixed is zone did.target count bytes copy (base_at opening.zones) r
     (told_image from opening u was r there) now may)
-    (λ r there now high. starts_at_copied from w was.fixed is (base_at opening.zones) r now zone did.target high) call)
+    (λ r there now high. copied_at_pointer from w was.fixed is (base_at opening.zones) r now zone did.target high) call)
 
 -- ONE THAT FAILED: the job is where it was, and the volume is stopped; what is in the copy buffer doesn't matter then
 pub kept_copy_write_failed : (from : PlainVolume) (w : Work) (zone count : ℕ) (bytes buffer : List ℕ)
@@ -147,4 +148,4 @@ kept_copy_write_failed from w zone count bytes buffer R opening u x runs was is 
     (λ r there now may.
     copy_puts_last from w was.fixed is zone target count bytes copy (base_at opening.zones) r
     (told_image from opening u was r there) now may)
-    (λ r there now high. starts_at_copied from w was.fixed is (base_at opening.zones) r now zone target high) call
+    (λ r there now high. copied_at_pointer from w was.fixed is (base_at opening.zones) r now zone target high) call

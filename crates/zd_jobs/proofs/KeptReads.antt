@@ -1,4 +1,5 @@
--- A RUN THAT WAS READ KEEPS A VOLUME, in any phase: the copy buffer has what was there last. So does a call that failed.
+-- A RUN THAT WAS READ KEEPS A VOLUME, in any phase: the copy buffer has what was there last. So does a call that
+-- failed.
 use Rattle.std.proofs.Common.{◌≡◌, ℕ, ◌+◌, ◌-◌, ◌*◌, ◌<◌, ◌≤◌, true, List, length, take, Option, Some, None}
 use Rattle.std.proofs.Common.{inl, inr, refl, sym, ap, ◌∙◌, subst, arith}
 use Rattle.std.proofs.lemmas.Bool.{cases_lt, false≢true}
@@ -96,7 +97,8 @@ module _ (from to : PlainVolume) (w : Work) (at count : ℕ) (told : Option Imag
     copies_read : AreCopied (sets_of from) to.buffer next base from.history r
     copies_read = record {
       copied = λ y z x j source target low valid few.
-          (copies_of from w fixed is base r now).copied y z x j source target (copied_before y x source low valid) valid few;
+          let before = copied_before y x source low valid in
+          (copies_of from w fixed is base r now).copied y z x j source target before valid few;
       read = λ x j low high few.
           let end = did.run.inside in
           let place : 8 * at + (8 * (x - at) + j) ≡ 8 * x + j = omega (arith, low) in

@@ -10,7 +10,7 @@ use Rattle.zd_volume.specs.Flights.{tables_now}
 use Rattle.zd_volume.specs.Volumes.{PlainVolume}
 use Rattle.zd_volume.specs.declared.work.Work.{Work}
 use Rattle.zd_volume.proofs.PlaceLaws.{cases_place}
-use Rattle.zd_jobs.specs.NextSteps.{HasGap, IsCopied, IsNextOf, IsNextRun, source}
+use Rattle.zd_jobs.specs.NextSteps.{HasGap, IsCopied, IsNextOf, IsNextRun, IsNextStep, source}
 use Rattle.zd_jobs.proofs.PossibleJobs.{before_found, found_passes, unfound}
 
 -- the first valid block of the source that is left to be copied
@@ -214,8 +214,8 @@ module _ (v : PlainVolume) (w : Work) where
               later = low;
               inside = omega (arith, low, high);
               first = λ x low before.
-                  before_found (is_valid (tables_now v) zone) w.copied (v.geometry.zone_blocks - w.copied) at x found low
-                  before;
+                  before_found (is_valid (tables_now v) zone) w.copied (v.geometry.zone_blocks - w.copied) at x found
+                  low before;
               valid = passes.0;
             },
           )
@@ -232,3 +232,16 @@ module _ (v : PlainVolume) (w : Work) where
       ]
     ]
   ]
+
+-- THE SAME of the job under way, or none
+pub next_step_there : (v : PlainVolume) (job : Option Work) → (next : Option StepKind) × IsNextStep v job next
+next_step_there v None = (None, refl)
+next_step_there v (Some w) = (let next = next_there v w in (Some next.0, next.1))
+
+pub next_step_unique : (v : PlainVolume) (job : Option Work) (one other : Option StepKind) → IsNextStep v job one
+    → IsNextStep v job other → one ≡ other
+next_step_unique v None one other is also = is ∙ sym also
+next_step_unique v (Some w) None other is also = absurd is
+next_step_unique v (Some w) (Some one) None is also = absurd also
+next_step_unique v (Some w) (Some one) (Some other) is also =
+    ap (λ (k : StepKind). Some k) (next_unique v w one other is also)

@@ -1,5 +1,5 @@
--- What is so of the chunk on which a job is possible: its entry fits the job; where an Empty is possible its zone has no
--- valid block, and where an Append is, its buffer has none below the zone's pointer.
+-- What is so of the chunk on which a job is possible: its entry fits the job; where an Empty is possible its zone has
+-- no valid block, and where an Append is, its buffer has none below the zone's pointer.
 use Rattle.std.proofs.Common.{◌≡◌, ◌⊎◌, ℕ, zero, suc, ◌+◌, ◌<◌, ◌≤◌, Bool, true, false, cond, List, Option, Some, None}
 use Rattle.std.proofs.Common.{inl, inr, refl, sym, ap, ap₂, ◌∙◌, subst, arith}
 use Rattle.std.proofs.lemmas.Bool.{cases_eq, leb-true, ltb-true}

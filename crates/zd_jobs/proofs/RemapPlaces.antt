@@ -88,7 +88,8 @@ module _ (from to : PlainVolume) (w : Work) (fixed : IsFixed from) (is : from.jo
 
     -- its place then
     at_target : (z : ℕ) → w.target ≡ Some z → is_valid (tables_now from) y x ≡ true
-        → place_in (tables_now (record from { fresh = to.fresh })) (record { zone = w.target; buffer = None }) x ≡ Some z
+        → place_in (tables_now (record from { fresh = to.fresh })) (record { zone = w.target; buffer = None }) x
+        ≡ Some z
     at_target z target valid =
         place_zone u x entry z target
         (joined z target ∙ ap (λ (c : Bool). is_valid t z x || c) valid ∙ or_right (is_valid t z x))

@@ -84,8 +84,8 @@ module _ (v : PlainVolume) (w : Work) (fixed : IsFixed v) (is : v.job ≡ Some w
     copies_of = subst (λ (job : Option Work). HasCopies (sets_of v) v.buffer job base v.history r) is now.copies
 
     -- A SEQUENTIAL TARGET is written just up to where the job is
-    pub starts_at_copied : (z : ℕ) → w.target ≡ Some z → v.geometry.conv ≤ z → 8 * w.copied ≡ r.held z
-    starts_at_copied z target high =
+    pub copied_at_pointer : (z : ℕ) → w.target ≡ Some z → v.geometry.conv ≤ z → 8 * w.copied ≡ r.held z
+    copied_at_pointer z target high =
         let whole = now.whole.at z high (uses_of_job.target z target) in
         let stands = now.pointers.at z high (target_low z target) in
         let block = job_of.pointer z target high in
@@ -113,10 +113,10 @@ module _ (v : PlainVolume) (w : Work) (fixed : IsFixed v) (is : v.job ≡ Some w
 -- THE SAME where the disk tells it: what its calls ask for
 module _ (v : PlainVolume) (w : Work) (opening u : View) (runs : v.stopped ≡ None) (was : IsKeptVolume v opening u)
     (is : v.job ≡ Some w) where
-  pub copy_starts_told : (z : ℕ) → w.target ≡ Some z
+  pub starts_at_copied : (z : ℕ) → w.target ≡ Some z
       → WhereTold u.zones (λ i. i.geometry.conv ≤ z → 8 * w.copied ≡ i.held z)
-  copy_starts_told z target r there high =
-      starts_at_copied v w was.fixed is (base_at opening.zones) r (was.reads runs r there) z target
+  starts_at_copied z target r there high =
+      copied_at_pointer v w was.fixed is (base_at opening.zones) r (was.reads runs r there) z target
       (subst (λ (g : Shape). g.conv ≤ z) (told_image v opening u was r there).geometry high)
 
   pub run_below_told : (at count : ℕ) (run : IsNextRun v w at count)
