@@ -1,6 +1,7 @@
 -- WHAT IS TRUE OF A VOLUME'S OWN VALUES stays true where a job ends: the zone that is given back is released.
 use Rattle.std.proofs.Common.{◌≡◌, ◌≢◌, ℕ, ◌<◌, ◌≤◌, false, List, length, get_or, get_or-set_other}
-use Rattle.std.proofs.Common.{get_or-set_same, length-set, Option, Some, None, inl, inr, refl, sym, ap, ◌∙◌, subst, arith}
+use Rattle.std.proofs.Common.{get_or-set_same, length-set, Option, Some, None, inl, inr, refl}
+use Rattle.std.proofs.Common.{sym, ap, ◌∙◌, subst, arith}
 use Rattle.std.proofs.lemmas.Bool.{cases_eq}
 use Rattle.std.specs.Prelude.{set}
 use Rattle.zd_base.specs.Geometry.{zone_count}
