@@ -1,17 +1,17 @@
 -- What the steps of a job make of a volume's values, but for the last one.
-use Rattle.std.specs.Prelude.{◌≡◌, ◌⊎◌, ℕ, ◌+◌, ◌*◌, ◌<◌, ◌≤◌, List, length, slice_index, slice_index_or, take, replicate, set}
+use Rattle.std.specs.Prelude.{◌≡◌, ◌⊎◌, ℕ, ◌+◌, ◌*◌, ◌<◌, List, length, slice_index, take, replicate, set}
 use Rattle.std.specs.Prelude.{Option, Some, None}
 use Rattle.zd_base.specs.declared.geometry.Kind.TheVariants.{Sequential}
 use Rattle.zd_base.specs.declared.numbers.Why.{Why}
-use Rattle.zd_alloc.specs.Zones.{Division, IsLeastOf, TakesLeast}
-use Rattle.zd_disk.specs.Steps.{piece}
+use Rattle.zd_alloc.specs.Candidates.{GivesClass}
+use Rattle.zd_alloc.specs.Zones.{Division, TakesLeast}
 use Rattle.zd_disk.specs.Told.{WhereTold, next_count}
-use Rattle.zd_disk.specs.View.{View}
 use Rattle.zd_model.specs.Image.{Image, run_of}
 use Rattle.zd_model.specs.Tables.{entry_of}
 use Rattle.zd_model.specs.declared.metadata.MapEntry.{MapEntry}
 use Rattle.zd_routes.specs.Routes.{pointers_with}
 use Rattle.zd_volume.specs.Flights.{tables_now}
+use Rattle.zd_volume.specs.Jobs.{class_in}
 use Rattle.zd_volume.specs.Volumes.{PlainVolume}
 use Rattle.zd_volume.specs.declared.work.Job.{Job}
 use Rattle.zd_volume.specs.declared.work.JobKind.{JobKind}
@@ -83,13 +83,18 @@ WritesCopy v w count bytes =
     ⊎ ((w.read ≡ 0) × ((at run : ℕ) × IsNextRun v w at run × HasGap v w at × (count ≡ gap_count w at)
     × (bytes ≡ replicate (4096 * count) 0)))
 
--- SO MANY BLOCKS WERE WRITTEN into the target; the copy buffer may have changed where nothing was read ahead
+-- SO MANY BLOCKS WERE WRITTEN into the target; the copy buffer may have changed where nothing was read ahead. The
+-- chunk has its class anew: an Append's pointer may stand behind the buffer's first valid block now
 pub record WritesBlocksOn (from to : PlainVolume) (w : Work) (zone count : ℕ) : Type 0 where
   pub target : w.target ≡ Some zone
   pub size : length to.buffer ≡ length from.buffer
+  pub classes : GivesClass w.job.chunk (class_in from.geometry
+      (pointers_with from.geometry from.pointers zone (w.copied + count)) (tables_now from) w.job.chunk)
+      from.standings.classes to.standings.classes
   pub rest : to ≡ record from {
     job = Some (record w { copied = w.copied + count; read = 0 });
     pointers = pointers_with from.geometry from.pointers zone (w.copied + count);
+    standings = record from.standings { classes = to.standings.classes };
     buffer = to.buffer;
     since = next_count from.since;
   }

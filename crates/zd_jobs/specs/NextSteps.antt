@@ -1,11 +1,12 @@
 -- The step of a job that comes next.
-use Rattle.std.specs.Prelude.{◌≡◌, ◌≢◌, ◌⊎◌, ℕ, ◌+◌, ◌-◌, ◌<◌, ◌≤◌, min, true, false}
+use Rattle.std.specs.Prelude.{◌≡◌, ◌⊎◌, ℕ, ◌+◌, ◌-◌, ◌<◌, ◌≤◌, min, true, false}
 use Rattle.std.specs.Prelude.{Option, Some, None}
 use Rattle.zd_base.specs.declared.steps.StepKind.{StepKind}
 use Rattle.zd_model.specs.Tables.{entry_of, is_valid}
 use Rattle.zd_volume.specs.Flights.{tables_now}
 use Rattle.zd_volume.specs.Jobs.{source_of}
 use Rattle.zd_volume.specs.Volumes.{PlainVolume}
+use Rattle.zd_volume.specs.declared.work.JobKind.TheVariants.{Empty}
 use Rattle.zd_volume.specs.declared.work.Work.{Work}
 
 -- the zone from which a job copies; an Empty copies from none
@@ -16,6 +17,11 @@ source v w = source_of w.job.kind (entry_of (tables_now v) w.job.chunk)
 abbrev pub IsCopied : PlainVolume → Work → Type 0
 IsCopied v w = (y x : ℕ) → source v w ≡ Some y → w.copied ≤ x → x < v.geometry.zone_blocks →
     is_valid (tables_now v) y x ≡ false
+
+-- the zone of an Empty has no valid block
+abbrev pub IsEmptied : PlainVolume → Work → Type 0
+IsEmptied v w = (y x : ℕ) → w.job.kind ≡ Empty → (entry_of (tables_now v) w.job.chunk).zone ≡ Some y →
+    x < v.geometry.zone_blocks → is_valid (tables_now v) y x ≡ false
 
 -- of the source's valid blocks that are left, the first and those in a row with it, as many as there are up to 32
 pub record IsNextRun (v : PlainVolume) (w : Work) (at count : ℕ) : Type 0 where

@@ -1,8 +1,7 @@
 -- Which job is possible on a chunk.
-use Rattle.std.specs.Prelude.{◌≡◌, ◌≢◌, ℕ, ◌<◌, ◌≤◌, Bool, true, false, cond, nat_lt, nat_le, slice_index}
-use Rattle.std.specs.Prelude.{List, Option, Some, None, is_some, if◌then◌else◌}
+use Rattle.std.specs.Prelude.{◌≡◌, ℕ, ◌<◌, ◌≤◌, Bool, true, false, nat_lt, nat_le, slice_index}
+use Rattle.std.specs.Prelude.{List, Option, Some, None, if◌then◌else◌}
 use Rattle.zd_base.specs.Geometry.{Shape}
-use Rattle.zd_base.specs.declared.geometry.Kind.TheVariants.{Sequential}
 use Rattle.zd_alloc.specs.Zones.{Division, use_at}
 use Rattle.zd_alloc.specs.declared.uses.ZoneUse.TheVariants.{Free}
 use Rattle.zd_model.specs.Tables.{Tables, entry_of}
