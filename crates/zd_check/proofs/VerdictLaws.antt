@@ -1,0 +1,1 @@
+-- One verdict, and one alone.
