@@ -6,14 +6,15 @@ use Rattle.zd_base.specs.Geometry.{Shape}
 use Rattle.zd_base.specs.Layout.{used_blocks}
 use Rattle.zd_model.specs.Image.{Image, block_at, set_block}
 use Rattle.zd_model.specs.Super.{decoded}
-use Rattle.zd_model.specs.Volume.{good_super, if_own}
+use Rattle.zd_model.specs.Volume.{if_own}
 use Rattle.zd_model.specs.declared.metadata.NotSuper.{NotSuper}
 use Rattle.zd_model.specs.declared.metadata.Super.{Super}
-use Rattle.zd_sets.specs.Blocks.{blocks_of}
+use Rattle.zd_sets.specs.Blocks.{AreBlocks, blocks_of}
 use Rattle.zd_sets.specs.Choice.{chosen_of}
 use Rattle.zd_sets.specs.Equal.{head_at}
 use Rattle.zd_sets.specs.declared.choice.Chosen.{Chosen as Choice}
 use Rattle.zd_sets.proofs.EqualLaws.{first_block}
+use Rattle.zd_examine.specs.Examined.{IsExamined}
 use Rattle.zd_check.specs.Verdicts.{AreBothSets, DifferFirstIn, HaveSameBlocks, HaveSameSupers, block_in}
 
 -- a record with the number of its zone is good there
@@ -29,6 +30,17 @@ good_decodes number (Ok t) s good = by_test (t.own == number) good
     by_test true e = cc
     by_test false e = cc
 good_decodes number (Err e) s good = cc
+
+-- what examining found and what was read of the other set
+pub both_sets : (g : Shape) (c : Choice) (bytes reported others : List ℕ) (image : Image)
+    → IsExamined g c bytes reported image → AreBlocks image c.other (used_blocks g c.head.layout) others
+    → AreBothSets g c bytes others image
+both_sets g c bytes reported others image found other = record {
+  geometry = found.geometry;
+  chosen = subst (λ (s : Shape). AreBlocks image c.zone (used_blocks s c.head.layout) bytes)
+      (sym found.geometry) found.blocks;
+  other = other;
+}
 
 module _ (g : Shape) (c : Choice) (bytes others : List ℕ) (image : Image)
     (sets : AreBothSets g c bytes others image) where

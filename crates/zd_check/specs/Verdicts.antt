@@ -8,6 +8,9 @@ use Rattle.zd_sets.specs.Blocks.{AreBlocks, blocks_of}
 use Rattle.zd_sets.specs.Choice.{chosen_of}
 use Rattle.zd_sets.specs.Equal.{IsMadeEqual, head_at}
 use Rattle.zd_sets.specs.declared.choice.Chosen.{Chosen as Choice}
+use Rattle.zd_examine.specs.Examined.{ExplainsRefusal}
+use Rattle.zd_examine.specs.Opened.{IsRefusal}
+use Rattle.zd_examine.specs.declared.examining.OpenFault.{OpenFault}
 use Rattle.zd_check.specs.declared.comparing.Verdict.{Verdict}
 use Rattle.zd_check.specs.declared.comparing.Verdict.TheVariants.{Same, Super, Block}
 
@@ -61,9 +64,10 @@ abbrev pub OneVolumeHasOneVerdict : Type 0
 OneVolumeHasOneVerdict =
     (image : Image) (v w : Verdict) → IsVerdict image v → IsVerdict image w → v ≡ w
 
--- an image with a verdict is well-formed
-abbrev pub AVerdictIsOfAVolume : Type 0
-AVerdictIsOfAVolume = (image : Image) (v : Verdict) → IsVerdict image v → WellFormed image
+-- an image that is refused for what it holds has none
+abbrev pub NoRefusedImageHasAVerdict : Type 0
+NoRefusedImageHasAVerdict = (image : Image) (fault : OpenFault) (v : Verdict) →
+    IsRefusal fault → ExplainsRefusal fault image → IsVerdict image v → ⊥
 
 -- the verdict is `Same` exactly where the other set is made equal by leaving all as it is
 abbrev pub SameIsMadeEqual : Type 0

@@ -8,8 +8,8 @@
 //! `Same`. A disk that is no volume has none, and is refused as `zd_examine::examine` refuses it (`err`);
 //! `Device` comes only where the count of faults rose (`cause`).
 //!
-//! `verdict_laws`: each volume has one verdict and no other, an image with a verdict is a volume, and
-//! the verdict is `Same` exactly where making the other set equal leaves all as it is.
+//! `verdict_laws`: each volume has one verdict and no other, an image that is refused for what it holds
+//! has none, and the verdict is `Same` exactly where making the other set equal leaves the image as it is.
 #![tactic(auto)]
 
 mod checking;

@@ -16,22 +16,22 @@ returns-then-not-is_super_of c image sets = (
       ∙ same_supers c.args.geometry.now c.args.chosen.now c.args.blocks.now c.args.others.now image sets same) in
       let wrong : true ≡ false = sym is ∙ c.if-not-is_super_of.true in
       absurd (let none : ⊥ = cc in none)
-  ),
+      ),
   refl,
 )
 
 pub returns-in-Some : goal.returns-in-Some
 returns-in-Some c image sets = (
   supers_same c.args.geometry.now c.args.chosen.now c.args.blocks.now c.args.others.now image sets
-  (ap decoded (sym c.block.ensures) ∙ c.is_super_of.ensures.0 c.if-not-is_super_of.false),
+      (ap decoded (sym c.block.ensures) ∙ c.is_super_of.ensures.0 c.if-not-is_super_of.false),
   differ_first c.args.geometry.now c.args.chosen.now c.args.blocks.now c.args.others.now image sets c.in-Some.block
-  (rw c.used_blocks-used.ensures at c.in-Some.ensures.some),
+      (rw c.used_blocks-used.ensures at c.in-Some.ensures.some),
 )
 
 pub returns-in-None : goal.returns-in-None
 returns-in-None c image sets = (
   supers_same c.args.geometry.now c.args.chosen.now c.args.blocks.now c.args.others.now image sets
-  (ap decoded (sym c.block.ensures) ∙ c.is_super_of.ensures.0 c.if-not-is_super_of.false),
+      (ap decoded (sym c.block.ensures) ∙ c.is_super_of.ensures.0 c.if-not-is_super_of.false),
   blocks_same c.args.geometry.now c.args.chosen.now c.args.blocks.now c.args.others.now image sets
-  (rw c.used_blocks-used.ensures at c.in-None.ensures.none),
+      (rw c.used_blocks-used.ensures at c.in-None.ensures.none),
 )
