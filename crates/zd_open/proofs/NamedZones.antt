@@ -1,5 +1,5 @@
 -- A zone that an entry of the map names is flagged so.
-use Rattle.std.proofs.Common.{◌≡◌, ℕ, zero, suc, ◌<◌, ◌==◌, Bool, true, ◌||◌, List, [], ◌∷◌, refl, ap, ◌∙◌}
+use Rattle.std.proofs.Common.{◌≡◌, ℕ, zero, suc, ◌<◌, ◌==◌, Bool, true, false, ◌||◌, List, [], ◌∷◌, inl, inr, ap, ◌∙◌, arith}
 use Rattle.std.proofs.lemmas.List.Folds.{list_any-append}
 use Rattle.std.proofs.lemmas.List.FromFn.{get_or-map-range_with_len}
 use Rattle.std.specs.Prelude.{flat_map, get_or, slice_index_or}
@@ -24,4 +24,4 @@ has_entry (e ∷ entries) (suc c) z n =
 pub flagged : (g : Shape) (t : Tables) (c z : ℕ) → z < zone_count g → NamesZone (entry_of t c) z
     → slice_index_or (named_flags g t) z false ≡ true
 flagged g t c z low n =
-    get_or-map-range_with_len (has (named_zones t)) 0 (zone_count g) z z false low refl ∙ has_entry t.entries c z n
+    get_or-map-range_with_len (has (named_zones t)) 0 (zone_count g) z z false low (omega arith) ∙ has_entry t.entries c z n
