@@ -1,15 +1,12 @@
--- The scripts that can be run so far: requests of caller 0, and no writes.
+-- The scripts that can be run so far: requests of caller 0.
 use Rattle.std.specs.Prelude.{◌≡◌, ℕ, List}
 use Rattle.std.specs.List.{AllByRecursion}
-use Rattle.zd_alone.specs.Alone.{IsNoWrite}
-use Rattle.zd_model.specs.Requests.{operation_of}
 use Rattle.zd_model.specs.Script.{IsScript}
 use Rattle.zd_model.specs.declared.requests.Request.{Request}
 
--- A REQUEST THAT CAN BE RUN: a read, a discard or a flush of caller 0
-pub record IsBuiltRequest (r : Request) : Type 0 where
-  pub caller : r.caller ≡ 0
-  pub no_write : IsNoWrite (operation_of r.what)
+-- A REQUEST THAT CAN BE RUN: one of caller 0
+abbrev pub IsBuiltRequest : Request → Type 0
+IsBuiltRequest r = r.caller ≡ 0
 
 -- the bytes are the script of this plan, all of which can be run
 pub record IsBuiltScript (bytes : List ℕ) (plan : List Request) : Type 0 where

@@ -72,11 +72,20 @@ abbrev pub EndsRun : Outcome → Type 0
 EndsRun (outcomes.Ended ending) = Unit {0}
 EndsRun outcome = ⊥
 
+-- in which stages an outcome comes for its cause
+abbrev pub ComesCaused : RunStage → Outcome → Type 0
+ComesCaused Words outcome = outcome ≡ outcomes.Usage
+ComesCaused Script outcome = EndsScript outcome
+ComesCaused Opening outcome = EndsOpening outcome
+ComesCaused Run outcome = EndsRun outcome
+
+-- A run came to a write for which no conventional zone is free: so far none is freed for it
+abbrev pub ComesStuck : RunStage → Outcome → Type 0
+ComesStuck stage outcome = (stage ≡ Run) × (outcome ≡ outcomes.NotBuilt)
+
+-- in which stages an outcome may come
 abbrev pub ReplayComes : RunStage → Outcome → Type 0
-ReplayComes Words outcome = outcome ≡ outcomes.Usage
-ReplayComes Script outcome = EndsScript outcome
-ReplayComes Opening outcome = EndsOpening outcome
-ReplayComes Run outcome = EndsRun outcome
+ReplayComes stage outcome = ComesCaused stage outcome ⊎ ComesStuck stage outcome
 
 -- what holds where a stage was passed, as far as the object tells that it is about; the run is the last
 abbrev pub ReplayPassed : List (List ℕ) → Option (List ℕ) → Option Image → RunStage → Type 0
@@ -99,10 +108,21 @@ ReplayCause words left zones outcome = Unit {0}
 -- the runs by these words, where the source tells these bytes, and the disk these zones
 abbrev pub replay_course : List (List ℕ) → Option (List ℕ) → Option Image → Course Outcome
 replay_course words left zones = record {
-  Comes = ReplayComes;
+  Comes = ComesCaused;
   Passed = ReplayPassed words left zones;
   Cause = ReplayCause words left zones;
 }
+
+-- the stages before this one were passed
+abbrev pub HasPassed : List (List ℕ) → Option (List ℕ) → Option Image → RunStage → Type 0
+HasPassed words left zones stage = (s : RunStage) → stage_order s < stage_order stage →
+    ReplayPassed words left zones s
+
+-- HOW A RUN ENDS: with the cause of its outcome, or stuck, and it passed the stages before
+abbrev pub ReplayEnds : List (List ℕ) → Option (List ℕ) → Option Image → RunStage → Outcome → Type 0
+ReplayEnds words left zones stage outcome =
+    EndsIn (replay_course words left zones) stage outcome
+    ⊎ (ComesStuck stage outcome × HasPassed words left zones stage)
 
 -- such a run ends so before its disk is opened, whatever the disk tells
 abbrev pub EndsUnread : List (List ℕ) → Option (List ℕ) → Outcome → Type 0
@@ -165,6 +185,12 @@ open_outcome (opens.BadBits zone block) = outcomes.NoVolume (volumes.BadBits zon
 open_outcome opens.Device = no_device
 open_outcome opens.Memory = no_memory
 
+-- a volume was opened, and closed again
+abbrev pub ClosesVolume : Outcome → Type 0
+ClosesVolume (outcomes.Ended endings.Ok) = Unit {0}
+ClosesVolume outcomes.NotBuilt = Unit {0}
+ClosesVolume outcome = ⊥
+
 -- how a run ends whose script can't be read
 abbrev pub script_outcome : ScriptFault → Outcome
 script_outcome (scripts.Bad line why) = outcomes.BadScript line why
@@ -172,12 +198,11 @@ script_outcome scripts.Source = outcomes.Source
 script_outcome scripts.Memory = no_memory
 
 -- What statuses tell of the stages: 0, 6 and 8 that the run came to its last one, 3 and 4 that it came to
--- opening, 1, 2, 5 and 11 that it ended before. 7 tells none.
+-- opening, 1, 2 and 5 that it ended before. 7 and 11 tell none.
 pub record StatusesTell (status : ℕ) : Type 0 where
   pub run : (status ≡ 0) ⊎ (status ≡ 6) ⊎ (status ≡ 8) → ReplayCameTo Run status
   pub opening : (status ≡ 3) ⊎ (status ≡ 4) → ReplayCameTo Opening status
-  pub before : (status ≡ 1) ⊎ (status ≡ 2) ⊎ (status ≡ 5) ⊎ (status ≡ 11) →
-      ReplayEndedBefore Opening status
+  pub before : (status ≡ 1) ⊎ (status ≡ 2) ⊎ (status ≡ 5) → ReplayEndedBefore Opening status
 
 abbrev pub EachStatusTells : Type 0
 EachStatusTells = (status : ℕ) → StatusesTell status

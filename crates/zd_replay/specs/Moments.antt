@@ -1,7 +1,7 @@
 -- The moments of a run: those before opening ended, and those from then on.
 use Rattle.std.specs.Prelude.{◌≡◌, ℕ, ◌+◌, ◌-◌, ◌<◌, ◌≤◌, ◌^◌, Some}
 use Rattle.zd_disk.specs.Told.{WhereTold}
-use Rattle.zd_disk.specs.View.{IsDurable, LeavesBy, Turns, View}
+use Rattle.zd_disk.specs.View.{IsDurable, LeavesBy, OnlyReads, ReadsNone, Turns, View}
 use Rattle.zd_examine.specs.Opened.{IsKept, IsLeftOrKept, open_calls}
 use Rattle.zd_model.specs.Image.{Image}
 use Rattle.zd_model.specs.Volume.{chosen}
@@ -11,6 +11,12 @@ use Rattle.zd_sets.specs.declared.choice.Chosen.{Chosen as Choice}
 use Rattle.zd_tell.specs.Stages.{RunStage, stage_order}
 use Rattle.zd_tell.specs.Stages.RunStage.{Opening, Run}
 use Rattle.zd_replay.specs.Ends.{no_device}
+
+-- no call came to the disk
+pub record IsUncalled (u v : View) : Type 0 where
+  pub reads : OnlyReads u v
+  pub none : ReadsNone u v
+  pub faults : v.faults ≡ u.faults
 
 -- So many writing calls had returned when opening ended, or the run did where it ended before. They are
 -- those of one opening by the chosen set, while their count is below its end.

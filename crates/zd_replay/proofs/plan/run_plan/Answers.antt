@@ -1,49 +1,61 @@
-use Rattle.std.proofs.Common.{None, Some, subst}
-use Rattle.zd_base.specs.declared.numbers.Why.{Why}
-use Rattle.zd_disk.proofs.ToldLaws.{Some-same}
-use Rattle.zd_model.specs.declared.requests.Ending.{Ending}
+use Rattle.std.proofs.Common.{◌∙◌, sym, subst}
+use Rattle.std.proofs.lemmas.Bool.{false≢true}
+use Rattle.zd_model.specs.declared.texts.Outcome.TheVariants as outcomes
+use Rattle.zd_replay.specs.Ends.{all_done, no_generation}
 use Rattle.zd_replay.specs.Run.{RunsPlan}
-use Rattle.zd_replay.proofs.AnsweredLaws.{faults_of, stopped_device, stopped_generation}
+use Rattle.zd_replay.proofs.AnsweredLaws.{comes_of, ends_by, faults_of}
 use Rattle.zd_replay.proofs.plan.run_plan.Goals as goal
 
-pub returns-in-Ok-clause-runs : goal.returns-in-Ok-clause-runs
-returns-in-Ok-clause-runs g c =
+pub returns-then-closes_volume-clause-runs : goal.returns-then-closes_volume-clause-runs
+returns-then-closes_volume-clause-runs g c =
     let view = g.D.ZonedDisk.view in
-    let to = c.answer_all-answered.new.v.plain in
-    subst (λ (o : _). RunsPlan c.args.plan.now Ending.Ok c.args.v.now.plain to (view o)
-    (view c.answer_all-answered.new.v.disk)) c.in-Ok.ensures.opening
+    let answer = c.answer_all-outcome in
+    let from = c.args.v.now.plain in
+    let to = answer.new.v.plain in
+    let plan = c.args.plan.now in
+    let outcome = answer.result in
+    let now = view answer.new.v.disk in
+    let ends = answer.ensures.ends in
+    subst (λ (o : _). RunsPlan plan outcome from to (view o) now) answer.ensures.opening
     (record {
+      comes = comes_of plan from to now outcome ends;
       shape = c.sound.ensures.sets.shape;
       shows = c.shows.ensures;
-      first = c.in-Ok.ensures.first;
-      all = λ _. c.in-Ok.ensures.ok.marks;
+      first = answer.ensures.first;
+      all = λ is. (ends_by plan from to now outcome all_done ends is).0;
+      stuck = λ is. (ends_by plan from to now outcome outcomes.NotBuilt ends is).0;
       counted = c.counts.ensures.calls;
-      faulted = faults_of to.history to.stopped None _ _ (λ is. absurd (let f : ⊥ = cc in f)) c.counts.ensures.faults;
+      faulted = faults_of plan from to now outcome ends _ _ c.counts.ensures.faults;
       legal = c.serves.ensures.legal;
       safe = c.safe.ensures.safe;
       earlier = c.safe.ensures.earlier;
       closed = λ _. c.closed.ensures;
-      generation = λ is. absurd (let f : ⊥ = cc in f);
+      generation = ends_by plan from to now outcome no_generation ends;
     })
 
-pub returns-in-Err-clause-runs : goal.returns-in-Err-clause-runs
-returns-in-Err-clause-runs g c =
+pub returns-else-closes_volume-clause-runs : goal.returns-else-closes_volume-clause-runs
+returns-else-closes_volume-clause-runs g c =
     let view = g.D.ZonedDisk.view in
-    let to = c.answer_all-answered.new.v.plain in
-    subst (λ (o : _). RunsPlan c.args.plan.now (Ending.Stopped c.in-Err.why) c.args.v.now.plain to (view o)
-    (view c.answer_all-answered.new.v.disk)) c.in-Err.ensures.opening
+    let answer = c.answer_all-outcome in
+    let from = c.args.v.now.plain in
+    let to = answer.new.v.plain in
+    let plan = c.args.plan.now in
+    let outcome = answer.result in
+    let now = view answer.new.v.disk in
+    let ends = answer.ensures.ends in
+    subst (λ (o : _). RunsPlan plan outcome from to (view o) now) answer.ensures.opening
     (record {
+      comes = comes_of plan from to now outcome ends;
       shape = c.sound.ensures.sets.shape;
       shows = c.shows.ensures;
-      first = c.in-Err.ensures.first;
-      all = λ is. absurd (let f : ⊥ = cc in f);
+      first = answer.ensures.first;
+      all = λ is. (ends_by plan from to now outcome all_done ends is).0;
+      stuck = λ is. (ends_by plan from to now outcome outcomes.NotBuilt ends is).0;
       counted = c.counts.ensures.calls;
-      faulted = faults_of to.history to.stopped (Some c.in-Err.why) _ _
-          (λ is. stopped_device c.in-Err.why to (Some-same c.in-Err.why Why.Device is) c.in-Err.ensures.err)
-          c.counts.ensures.faults;
+      faulted = faults_of plan from to now outcome ends _ _ c.counts.ensures.faults;
       legal = c.serves.ensures.legal;
       safe = c.safe.ensures.safe;
       earlier = c.safe.ensures.earlier;
-      closed = λ is. absurd (let f : ⊥ = cc in f);
-      generation = λ is. stopped_generation c.in-Err.why to is c.in-Err.ensures.err;
+      closed = λ closes. absurd (false≢true (sym c.if-closes_volume.false ∙ c.closes_volume.ensures.1 closes));
+      generation = ends_by plan from to now outcome no_generation ends;
     })
