@@ -1,6 +1,5 @@
 -- What is told of a run.
-use Rattle.std.specs.Prelude.{ℕ, List, [], ◌∷◌, ◌++◌, codes}
-use Rattle.zd_check.specs.declared.comparing.Verdict.{Verdict}
+use Rattle.std.specs.Prelude.{ℕ, List, ◌++◌, codes}
 use Rattle.zd_check.specs.declared.comparing.Verdict.TheVariants as verdicts
 use Rattle.zd_model.specs.Report.{outcome_text}
 use Rattle.zd_model.specs.Text.{numeral}

@@ -40,27 +40,26 @@ fn add_number(text: &mut String, n: u32) -> Result<(), AllocError>
 }
 
 /// The output of a run that formatted a disk.
-fn formatted_text(alloc: Global, chunks: u32, zone_blocks: u32) -> Result<String, AllocError>
-    ensures { IfOk result (λ text.
-        string_bytes text ≡ admin_output (Outcome.Formatted chunks zone_blocks)) }
+fn formatted_text(alloc: Global, chunks: u32, zone_blocks: u32) -> Result<Vec<u8>, AllocError>
+    ensures { IfOk result (λ text. text.items ≡ admin_output (Outcome.Formatted chunks zone_blocks)) }
 {
     let mut text = String::from_str(alloc, "formatted ")?;
     add_number(&mut text, chunks)?;
     text.push_str(" chunks of ")?;
     add_number(&mut text, zone_blocks)?;
     text.push_str(" blocks\nend 0 ok\n")?;
-    Ok(text)
+    Ok(text.into_bytes())
 }
 
 /// The output of a run that found what differs: a set or a block, of this number.
-fn differs_text(alloc: Global, what: &str, number: u32) -> Result<String, AllocError>
-    ensures { IfOk result (λ text. string_bytes text ≡ differs_text what.now number) }
+fn differs_text(alloc: Global, what: &str, number: u32) -> Result<Vec<u8>, AllocError>
+    ensures { IfOk result (λ text. text.items ≡ differs_text what.now number) }
 {
     let mut text = String::from_str(alloc, "end 9 differs ")?;
     text.push_str(what)?;
     add_number(&mut text, number)?;
     text.push_str("\n")?;
-    Ok(text)
+    Ok(text.into_bytes())
 }
 
 /// The output of a run whose disk is no volume.
@@ -70,17 +69,6 @@ fn refused_text(alloc: Global, kind: NoVolume) -> Result<Vec<u8>, Memory>
 {
     let history = History::new(alloc);
     output_text(alloc, &history, &zd_model::Outcome::NoVolume(kind))
-}
-
-/// The bytes of a text; `Memory` where none was found for it.
-fn bytes_of(text: Result<String, AllocError>) -> Result<Vec<u8>, Memory>
-    ensures { IfOk result (λ bytes. IfOk text (λ text. bytes.items ≡ string_bytes text)) }
-    ensures { IfOk result (λ bytes. IsOk text) }
-{
-    match text {
-        Ok(text) => Ok(text.into_bytes()),
-        Err(AllocError) => Err(Memory),
-    }
 }
 
 impl Message for Outcome {
@@ -119,9 +107,13 @@ impl Message for Outcome {
             Outcome::Formatted {
                 chunks,
                 zone_blocks,
-            } => bytes_of(formatted_text(alloc, *chunks, *zone_blocks)),
-            Outcome::Checked(Verdict::Super { set }) => bytes_of(differs_text(alloc, "super ", *set)),
-            Outcome::Checked(Verdict::Block { block }) => bytes_of(differs_text(alloc, "block ", *block)),
+            } => formatted_text(alloc, *chunks, *zone_blocks).map_err(|_| Memory),
+            Outcome::Checked(Verdict::Super { set }) => differs_text(alloc, "super ", *set).map_err(
+                |_| Memory,
+            ),
+            Outcome::Checked(Verdict::Block { block }) => differs_text(
+                alloc, "block ", *block,
+            ).map_err(|_| Memory),
             Outcome::NoVolume(kind) => refused_text(alloc, *kind),
             _ => unreachable!(),
         }

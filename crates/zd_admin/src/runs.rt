@@ -1,7 +1,10 @@
 //! A run, from words to the last line.
 
-ghost use Rattle.std.specs.Prelude.{◌≡◌, ◌↔◌, ◌≤◌, map, string_bytes};
+ghost use Rattle.std.specs.Prelude.{◌≡◌, ◌↔◌, ◌≤◌, Option, map, string_bytes};
+ghost use Rattle.zd_disk.specs.Told.{WhereTold};
 ghost use Rattle.zd_disk.specs.View.{HasFailed, Holds, OnlyReads, Stays};
+ghost use Rattle.zd_examine.specs.Examined.{ExplainsRefusal};
+ghost use Rattle.zd_model.specs.Image.{Image};
 ghost use Rattle.zd_ports.specs.Taking.{IsFaultless};
 ghost use Rattle.zd_admin.specs.Words.{AsksCheck, IsAdminCommand};
 ghost use Rattle.zd_admin.specs.Output.{admin_status};
@@ -43,6 +46,22 @@ fn run_format<D: ZonedDisk>(alloc: Global, disk: &mut D, reserved: u32, volume: 
     }
 }
 
+/// How a run ends whose disk can't be examined, or is no volume.
+fn refused(fault: OpenFault) -> Outcome
+    ensures ended { (zones : Option Image) → WhereTold zones (ExplainsRefusal fault) →
+        CheckEnds zones result }
+    ensures device { result ≡ Outcome.Device → fault ≡ OpenFault.Device }
+{
+    match fault {
+        OpenFault::NoSuperBlock => Outcome::NoVolume(NoVolume::NoSuperBlock),
+        OpenFault::Layout => Outcome::NoVolume(NoVolume::Layout),
+        OpenFault::BadMap { chunk } => Outcome::NoVolume(NoVolume::BadMap { chunk }),
+        OpenFault::BadBits { zone, block } => Outcome::NoVolume(NoVolume::BadBits { zone, block }),
+        OpenFault::Device => Outcome::Device,
+        OpenFault::Memory => Outcome::Memory,
+    }
+}
+
 /// Checks a disk.
 fn run_check<D: ZonedDisk>(alloc: Global, disk: &mut D) -> Outcome
     ensures ended { CheckEnds (D.view disk.old).zones result }
@@ -51,14 +70,7 @@ fn run_check<D: ZonedDisk>(alloc: Global, disk: &mut D) -> Outcome
 {
     match check(alloc, disk) {
         Ok(verdict) => Outcome::Checked(verdict),
-        Err(OpenFault::NoSuperBlock) => Outcome::NoVolume(NoVolume::NoSuperBlock),
-        Err(OpenFault::Layout) => Outcome::NoVolume(NoVolume::Layout),
-        Err(OpenFault::BadMap { chunk }) => Outcome::NoVolume(NoVolume::BadMap { chunk }),
-        Err(OpenFault::BadBits { zone, block }) => {
-            Outcome::NoVolume(NoVolume::BadBits { zone, block })
-        }
-        Err(OpenFault::Device) => Outcome::Device,
-        Err(OpenFault::Memory) => Outcome::Memory,
+        Err(fault) => refused(fault),
     }
 }
 
