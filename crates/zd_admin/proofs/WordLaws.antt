@@ -1,6 +1,7 @@
--- What six words say.
-use Rattle.std.proofs.Common.{Bool, true, false, ◌≡◌, ℕ, ◌<◌, ◌≤◌, ◌^◌, List, [], ◌∷◌, ◌++◌, length, map, get_or, IfNone, IfSome, Option, Some, None, Result, Ok, Err, IfOk, IsOk, refl, sym, ap, ◌∙◌, arith}
-use Rattle.std.specs.Prelude.{◌↔◌, not, slice_get, is_some}
+-- What words say.
+use Rattle.std.proofs.Common.{Bool, true, false, ◌≡◌, ℕ, ◌<◌, ◌≤◌, ◌-◌, ◌^◌, List, [], ◌∷◌, ◌++◌, length, map, get_or, IfNone, IfSome, Option, Some, None, Result, Ok, Err, IfOk, IsOk, refl, sym, ap, ◌∙◌, arith}
+use Rattle.std.specs.Prelude.{◌↔◌, IsTrue, codes, not, option_map, slice_get, is_some}
+use Rattle.std.proofs.lemmas.Option.{slice_get-map, slice_get_read}
 use Rattle.std.specs.Result.{result_ok}
 use Rattle.std.specs.Str.{bytes_eq}
 use Rattle.std.proofs.lemmas.Bool.{false≢true}
@@ -8,7 +9,8 @@ use Rattle.std.proofs.lemmas.Slice.Eq.{bytes_eq-Decides}
 use Rattle.std.specs.Str.Parse.{ParsesUnsigned}
 use Rattle.std.proofs.lemmas.Fmt.{parse-decimal}
 use Rattle.std.proofs.lemmas.List.{length-map}
-use Rattle.zd_admin.specs.Words.{IsAdminCommand}
+use Rattle.zd_ports.specs.Words.{is_option}
+use Rattle.zd_admin.specs.Words.{AsksCheck, AsksFormat, IsFormatCommand}
 use Rattle.zd_model.specs.Text.{numeral}
 use Rattle.zd_model.proofs.Decimals.{numeral_decimal}
 use Rattle.zd_model.proofs.TextLaws.{same_numeral}
@@ -44,6 +46,10 @@ tried (Ok u) p ok bytes = bytes
 tried (Err e) None ok bytes = refl
 tried (Err e) (Some u) ok bytes = absurd (false≢true (ok.1 (u, refl)))
 
+not_true : (b : Bool) → not b ≡ true → b ≡ false
+not_true true h = sym h
+not_true false h = refl
+
 pub equal : (xs ys : List ℕ) (r : Bool) → r ≡ not (bytes_eq xs ys) → r ≡ false → xs ≡ ys
 equal xs ys r is e = (bytes_eq-Decides xs ys).0 (by (bytes_eq xs ys) (sym is ∙ e))
   where
@@ -61,16 +67,12 @@ not_equal xs ys r is e same = by (bytes_eq xs ys) ((bytes_eq-Decides xs ys).1 sa
 pub ok_same : {E : Type 0} (m n : ℕ) → ◌≡◌ {A = Result ℕ E} (Ok m) (Ok n) → m ≡ n
 ok_same m n e = cc
 
--- a command has six words
-pub has_six : {X : Type 0} (f : X → List ℕ) (ws : List X) → IsAdminCommand (map f ws) → length ws ≡ 6
+-- a command that formats has six words
+pub has_six : {X : Type 0} (f : X → List ℕ) (ws : List X) → IsFormatCommand (map f ws) → length ws ≡ 6
 has_six {X} f ws h = sym (length-map {A = X} {B = List ℕ} ws f) ∙ ap length h.2.spelled
 
 pub third : (a b c p q r : List ℕ) (more rest : List (List ℕ)) → ◌≡◌ {A = List (List ℕ)} (a ∷ b ∷ c ∷ more) (p ∷ q ∷ r ∷ rest) → c ≡ r
 third a b c p q r more rest e = cc
-
-pub fifth : (a b c d f p q r s t : List ℕ) (more rest : List (List ℕ))
-    → ◌≡◌ {A = List (List ℕ)} (a ∷ b ∷ c ∷ d ∷ f ∷ more) (p ∷ q ∷ r ∷ s ∷ t ∷ rest) → f ≡ t
-fifth a b c d f p q r s t more rest e = cc
 
 pub where_none : {T : Type 0} (o : Option T) (P : Type 0) → P → IfNone o P
 where_none None P h = h
@@ -80,20 +82,47 @@ pub four_words : (a b c d e g p q r s : List ℕ) → a ≡ p → b ≡ q → c 
     → ◌≡◌ {A = List (List ℕ)} (a ∷ b ∷ c ∷ d ∷ e ∷ g ∷ []) (p ∷ q ∷ r ∷ s ∷ e ∷ g ∷ [])
 four_words a b c d e g p q r s h i j k = cc
 
--- the last of six words
-pub sixth : {X : Type 0} (f : X → List ℕ) (ws : List X) (g : X) → 6 ≤ length ws → length ws < 7 → g ≡ get_or ws 5 g → slice_get (map f ws) 5 ≡ Some (f g)
-sixth f [] g least most u = absurd (omega (arith, least))
-sixth f (k ∷ []) g least most u = absurd (omega (arith, least))
-sixth f (k ∷ l ∷ []) g least most u = absurd (omega (arith, least))
-sixth f (k ∷ l ∷ m ∷ []) g least most u = absurd (omega (arith, least))
-sixth f (k ∷ l ∷ m ∷ n ∷ []) g least most u = absurd (omega (arith, least))
-sixth f (k ∷ l ∷ m ∷ n ∷ o ∷ []) g least most u = absurd (omega (arith, least))
-sixth f (k ∷ l ∷ m ∷ n ∷ o ∷ v ∷ ws) g least most u = sym (ap (λ x. Some (f x)) u)
+-- the last word
+pub last_word : {X : Type 0} (f : X → List ℕ) (ws : List X) (x : X) → 1 ≤ length ws → x ≡ get_or ws (length ws - 1) x
+    → slice_get (map f ws) (length (map f ws) - 1) ≡ Some (f x)
+last_word {X} f ws x some is =
+    let count = length-map {A = X} {B = List ℕ} ws f in
+    ap (slice_get (map f ws)) (ap (λ n. n - 1) count)
+    ∙ slice_get-map f ws (length ws - 1)
+    ∙ ap (option_map f) (slice_get_read ws (length ws) (length ws - 1) x refl (omega arith) is)
+
+second : (a b p q : List ℕ) → ◌≡◌ {A = List (List ℕ)} (a ∷ b ∷ []) (p ∷ q ∷ []) → b ≡ q
+second a b p q e = cc
+
+-- two words
+pub two_words : {X : Type 0} (f : X → List ℕ) (ws : List X) (a b : X) → 2 ≤ length ws → length ws < 3
+    → a ≡ get_or ws 0 a → b ≡ get_or ws 1 b → map f ws ≡ f a ∷ f b ∷ []
+two_words f [] a b least most p q = absurd (omega (arith, least))
+two_words f (k ∷ []) a b least most p q = absurd (omega (arith, least))
+two_words f (k ∷ l ∷ []) a b least most p q = rw (p, q) refl
+two_words f (k ∷ l ∷ m ∷ ws) a b least most p q = absurd (omega (arith, most))
+
+-- two words check where they are spelled so
+pub are_check : (words : List (List ℕ)) (check image : List ℕ) (option : Bool) → words ≡ check ∷ image ∷ []
+    → check ≡ codes "--check" → option ≡ is_option image → IsTrue (not option) ↔ AsksCheck words
+are_check words check image option spelled named is = (there, back)
+  where
+    there : IsTrue (not option) → AsksCheck words
+    there path = record {
+      image = image;
+      spelled = spelled ∙ ap (λ (w : List ℕ). w ∷ image ∷ []) named;
+      path = sym is ∙ not_true option path;
+    }
+
+    back : AsksCheck words → IsTrue (not option)
+    back h =
+        let same = second check image (codes "--check") h.image (sym spelled ∙ h.spelled) in
+        ap not (is ∙ ap is_option same ∙ h.path)
+
+-- words that check don't format
+pub asks_one : (words : List (List ℕ)) (reserved : ℕ) (volume : List ℕ) → AsksFormat words reserved volume → AsksCheck words → ⊥
+asks_one words reserved volume a b = let six = ap length a.spelled in let two = ap length b.spelled in omega (arith, six, two)
 
 pub where_some : {T : Type 0} (o : Option T) (P : T → Type 0) → is_some o ≡ true → IfSome o P → (x : T) × P x
 where_some None P e h = absurd (false≢true e)
 where_some (Some x) P e h = (x, h)
-
-pub none_there : {T : Type 0} (o : Option T) (P : Type 0) → is_some o ≡ false → IfNone o P → P
-none_there None P e h = h
-none_there (Some x) P e h = absurd (false≢true (sym e))

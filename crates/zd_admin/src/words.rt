@@ -1,10 +1,10 @@
 //! The words of a command.
 
-ghost use Rattle.std.specs.Prelude.{◌≡◌, ◌≤◌, ℕ, map, string_bytes, IfNone, IfOk, IfSome, None};
+ghost use Rattle.std.specs.Prelude.{◌≡◌, ◌↔◌, ◌≤◌, ℕ, map, string_bytes, IfNone, IfOk, IfSome, IsTrue, None};
 ghost use Rattle.std.specs.Option.{option_copied};
 ghost use Rattle.uuid.specs.Text.{parsed};
 ghost use Rattle.zd_model.specs.Text.{numeral};
-ghost use Rattle.zd_admin.specs.Words.{AsksFormat, IsAdminCommand, NamesImage};
+ghost use Rattle.zd_admin.specs.Words.{Asks, AsksCheck, IsAdminCommand, IsFormatCommand, NamesImage};
 
 use itoa::Buffer;
 use uuid::Uuid;
@@ -14,13 +14,18 @@ use zd_ports::{Paths, is_option};
 /// The most reserved zones that a command may ask for.
 const MOST: u32 = 65_536;
 
-/// What a command asks for: to format a disk.
+/// What a command asks for.
 #[derive(Clone, Copy, Debug, PartialEq, Eq)]
-pub struct Asked {
-    /// The reserved zones.
-    pub reserved: u32,
-    /// The identifier of the volume.
-    pub volume: Uuid,
+pub enum Asked {
+    /// The disk is to become a volume of zeros.
+    Format {
+        /// The reserved zones.
+        reserved: u32,
+        /// The identifier of the volume.
+        volume: Uuid,
+    },
+    /// Whether both sets of metadata are the same.
+    Check,
 }
 
 /// The number of reserved zones that a word writes, without leading zeros.
@@ -50,11 +55,10 @@ fn identifier(word: &str) -> Option<Uuid>
     Uuid::try_parse(word).ok()
 }
 
-/// What the words ask for, where they are a command.
-pub fn command(words: &[String]) -> Option<Asked>
-    ensures some { IfSome result (λ a.
-        AsksFormat (map string_bytes words.now) a.reserved a.volume) }
-    ensures none { IfNone result (IsAdminCommand (map string_bytes words.now) → ⊥) }
+/// What the words ask for, where they are a command that formats.
+fn asked_format(words: &[String]) -> Option<Asked>
+    ensures some { IfSome result (Asks (map string_bytes words.now)) }
+    ensures none { IfNone result (IsFormatCommand (map string_bytes words.now) → ⊥) }
 {
     let [format, seq, reserved, uuid, volume, image] = words else {
         return None;
@@ -68,7 +72,28 @@ pub fn command(words: &[String]) -> Option<Asked>
     }
     let reserved = number(reserved)?;
     let volume = identifier(volume)?;
-    Some(Asked { reserved, volume })
+    Some(Asked::Format { reserved, volume })
+}
+
+/// Whether the words are a command that checks.
+fn asks_check(words: &[String]) -> bool
+    ensures { IsTrue result ↔ AsksCheck (map string_bytes words.now) }
+{
+    match words {
+        [check, image] => check.as_str() == "--check" && !is_option(image),
+        _ => false,
+    }
+}
+
+/// What the words ask for, where they are a command.
+pub fn command(words: &[String]) -> Option<Asked>
+    ensures some { IfSome result (Asks (map string_bytes words.now)) }
+    ensures none { IfNone result (IsAdminCommand (map string_bytes words.now) → ⊥) }
+{
+    if asks_check(words) {
+        return Some(Asked::Check);
+    }
+    asked_format(words)
 }
 
 /// The word that stands for the image of a command; none where the words are no command.
@@ -81,7 +106,7 @@ pub fn paths<'a>(words: &'a [String]) -> Result<Paths<'a>, Memory>
     ensures front { IfOk result (λ paths. paths.front ≡ None) }
 {
     match words {
-        [_, _, _, _, _, image] if command(words).is_some() => Ok(Paths {
+        [.., image] if command(words).is_some() => Ok(Paths {
             image: Some(image.as_str()),
             script: None,
             front: None,

@@ -1,4 +1,4 @@
-use Rattle.zd_admin.proofs.RunLaws.{one_outcome}
+use Rattle.zd_admin.proofs.CauseLaws.{one_outcome}
 use Rattle.zd_admin.proofs.laws.one_outcome.Goals as goal
 
 pub returns : goal.returns

@@ -3,8 +3,8 @@ use Rattle.std.specs.Prelude.{string_bytes}
 use Rattle.uuid.specs.Text.{parsed}
 use Rattle.zd_ports.specs.Words.{is_option}
 use Rattle.zd_admin.proofs.WordLaws.{equal, four_words, has_six, six_words, third, where_none}
-use Rattle.zd_admin.proofs.words.command.Goals.{in_default-via-then-words-lt6, in_default-via-else-words-lt6+else-words-lt7}
-use Rattle.zd_admin.proofs.words.command.Goals as goal
+use Rattle.zd_admin.proofs.words.asked_format.Goals.{in_default-via-then-words-lt6, in_default-via-else-words-lt6+else-words-lt7}
+use Rattle.zd_admin.proofs.words.asked_format.Goals as goal
 
 pub returns-in_default-clause-none : goal.returns-in_default-clause-none
 returns-in_default-clause-none c h =
