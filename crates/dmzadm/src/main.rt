@@ -1,4 +1,5 @@
-//! Makes a disk in an image file a volume: `dmzadm --format --seq R --uuid U IMAGE`.
+//! Makes a disk in an image file a volume, by `dmzadm --format --seq R --uuid U IMAGE`, and checks one, by
+//! `dmzadm --check IMAGE`.
 //!
 //! What was done goes to standard output, and the exit status is that of the last line.
 #![tactic(auto)]
