@@ -26,30 +26,30 @@ use Rattle.zd_admin.specs.declared.words.Asked.{Asked}
 use Rattle.zd_admin.specs.declared.words.Asked.TheVariants.{Format, Check}
 
 -- a volume isn't refused
-pub volume_not_refused : (kind : Kind) (image : Image) → ExplainsRefusal (refusal_of kind) image → WellFormed image → ⊥
-volume_not_refused NoSuperBlock image why well = refused_none image why well
-volume_not_refused Layout image why well = refused_layout image why well
-volume_not_refused (BadMap chunk) image why well = refused_map chunk image why well
-volume_not_refused (BadBits zone block) image why well = refused_bits zone block image why well
+pub never_refused : (kind : Kind) (image : Image) → ExplainsRefusal (refusal_of kind) image → WellFormed image → ⊥
+never_refused NoSuperBlock image why well = refused_none image why well
+never_refused Layout image why well = refused_layout image why well
+never_refused (BadMap chunk) image why well = refused_map chunk image why well
+never_refused (BadBits zone block) image why well = refused_bits zone block image why well
 
 -- an image is refused for one reason
-refused_once : (k l : Kind) (image : Image) → ExplainsRefusal (refusal_of k) image → ExplainsRefusal (refusal_of l) image → k ≡ l
-refused_once NoSuperBlock NoSuperBlock image h i = refl
-refused_once NoSuperBlock Layout image h i = absurd (none_or_layout image h i)
-refused_once NoSuperBlock (BadMap n) image h i = absurd (none_or_placed image h i.0 i.1)
-refused_once NoSuperBlock (BadBits z x) image h i = absurd (none_or_placed image h i.0 i.1)
-refused_once Layout NoSuperBlock image h i = absurd (none_or_layout image i h)
-refused_once Layout Layout image h i = refl
-refused_once Layout (BadMap n) image h i = absurd (layout_or_placed image h i.0 i.1)
-refused_once Layout (BadBits z x) image h i = absurd (layout_or_placed image h i.0 i.1)
-refused_once (BadMap m) NoSuperBlock image h i = absurd (none_or_placed image i h.0 h.1)
-refused_once (BadMap m) Layout image h i = absurd (layout_or_placed image i h.0 h.1)
-refused_once (BadMap m) (BadMap n) image h i = ap (λ (chunk : ℕ). BadMap chunk) (one_chunk image m n h i)
-refused_once (BadMap m) (BadBits z x) image h i = absurd (map_or_bits image m z x h i)
-refused_once (BadBits y w) NoSuperBlock image h i = absurd (none_or_placed image i h.0 h.1)
-refused_once (BadBits y w) Layout image h i = absurd (layout_or_placed image i h.0 h.1)
-refused_once (BadBits y w) (BadMap n) image h i = absurd (map_or_bits image n y w i h)
-refused_once (BadBits y w) (BadBits z x) image h i =
+one_refusal : (k l : Kind) (image : Image) → ExplainsRefusal (refusal_of k) image → ExplainsRefusal (refusal_of l) image → k ≡ l
+one_refusal NoSuperBlock NoSuperBlock image h i = refl
+one_refusal NoSuperBlock Layout image h i = absurd (none_or_layout image h i)
+one_refusal NoSuperBlock (BadMap n) image h i = absurd (none_or_placed image h i.0 i.1)
+one_refusal NoSuperBlock (BadBits z x) image h i = absurd (none_or_placed image h i.0 i.1)
+one_refusal Layout NoSuperBlock image h i = absurd (none_or_layout image i h)
+one_refusal Layout Layout image h i = refl
+one_refusal Layout (BadMap n) image h i = absurd (layout_or_placed image h i.0 i.1)
+one_refusal Layout (BadBits z x) image h i = absurd (layout_or_placed image h i.0 i.1)
+one_refusal (BadMap m) NoSuperBlock image h i = absurd (none_or_placed image i h.0 h.1)
+one_refusal (BadMap m) Layout image h i = absurd (layout_or_placed image i h.0 h.1)
+one_refusal (BadMap m) (BadMap n) image h i = ap (λ (chunk : ℕ). BadMap chunk) (one_chunk image m n h i)
+one_refusal (BadMap m) (BadBits z x) image h i = absurd (map_or_bits image m z x h i)
+one_refusal (BadBits y w) NoSuperBlock image h i = absurd (none_or_placed image i h.0 h.1)
+one_refusal (BadBits y w) Layout image h i = absurd (layout_or_placed image i h.0 h.1)
+one_refusal (BadBits y w) (BadMap n) image h i = absurd (map_or_bits image n y w i h)
+one_refusal (BadBits y w) (BadBits z x) image h i =
     let same = one_bit image y w z x h i in ap₂ (λ (zone block : ℕ). BadBits zone block) same.0 same.1
 
 some_of : {X : Type 0} (o : Option X) → IsSome o → (x : X) × (o ≡ Some x)
@@ -159,14 +159,14 @@ module _ (words : List (List ℕ)) (zones : Option Image) (told : Option Shape) 
         let is = kind_of o d comes in
         let why = refused_at is.0 (subst (AdminCause words zones told) is.1 cause) in
         let image = some_of zones (here why.0) in
-        volume_not_refused is.0 image.0 (why.1 image.0 image.1) (examined why.0 image.0 image.1);
+        never_refused is.0 image.0 (why.1 image.0 image.1) (examined why.0 image.0 image.1);
     one = λ o p d e comes others cause reason.
         let is = kind_of o d comes in
         let other = kind_of p e others in
         let why = refused_at is.0 (subst (AdminCause words zones told) is.1 cause) in
         let for = refused_at other.0 (subst (AdminCause words zones told) other.1 reason) in
         let image = some_of zones (here why.0) in
-        is.1 ∙ ap (λ (k : Kind). NoVolume k) (refused_once is.0 other.0 image.0 (why.1 image.0 image.1) (for.1 image.0 image.1))
+        is.1 ∙ ap (λ (k : Kind). NoVolume k) (one_refusal is.0 other.0 image.0 (why.1 image.0 image.1) (for.1 image.0 image.1))
         ∙ sym other.1;
   }
   stage_decides Run = record {

@@ -12,7 +12,7 @@ use Rattle.zd_tell.specs.Stages.{RunStage, stage_order}
 use Rattle.zd_tell.specs.Stages.RunStage.{Words, Script, Opening, Run}
 use Rattle.zd_tell.specs.Telling.{HasStatus, TellsMessage}
 use Rattle.zd_tell.proofs.TellLaws.{fixed_told, own_status, status_told}
-use Rattle.zd_admin.proofs.CauseLaws.{volume_not_refused}
+use Rattle.zd_admin.proofs.CauseLaws.{never_refused}
 use Rattle.zd_admin.proofs.WordLaws.{asks_one}
 use Rattle.zd_admin.specs.Words.{Asks, AsksCheck, IsAdminCommand}
 use Rattle.zd_admin.specs.Output.{IsFixedOutput, admin_status, admin_telling}
@@ -205,7 +205,7 @@ module _ (words : List (List ℕ)) (zones : Option Image) (told : Option Shape) 
       → admin_status outcome ≡ 3 → IsRefusedBy words zones
   refused_by (Format reserved volume) (NoVolume kind) asks ends is = absurd ends
   refused_by Check (NoVolume kind) asks ends is =
-      record { asks = asks; no_volume = λ image here well. volume_not_refused kind image (ends image here) well }
+      record { asks = asks; no_volume = λ image here well. never_refused kind image (ends image here) well }
   refused_by asked (Formatted chunks zone_blocks) asks ends is = absurd (omega (arith, is))
   refused_by asked (Checked verdicts.Same) asks ends is = absurd (omega (arith, is))
   refused_by asked (Checked (verdicts.Super set)) asks ends is = absurd (omega (arith, is))
