@@ -71,6 +71,17 @@ module _ (g : Shape) (l : Layout) (fits : Fits g l) (some : 0 < g.zone_blocks) (
       let room = fits.conventional_data in
       omega (arith, zones, room, low)
 
+  -- no block of the set is the super block of the other one
+  elsewhere : (zone : ℕ) → (zone < first) ⊎ (first + set_zones g l ≤ zone) → (k : ℕ) → k < used
+      → InSet g zone 0 1 (first + k / g.zone_blocks) (k % g.zone_blocks) → ⊥
+  elsewhere zone apart k below at =
+      let zones = in_zones g l fits some k below in
+      let none = zero-div g.zone_blocks in
+      let here : at.0 ≡ 0 = omega (arith, at.2) in
+      let place : first + k / g.zone_blocks ≡ zone =
+      (let e = ap (λ (n : ℕ). n / g.zone_blocks) here in omega (arith, at.3, e, none)) in
+      elim apart [ inl before ↦ absurd (omega (arith, before, place)) | inr past ↦ absurd (omega (arith, past, place, zones)) ]
+
   -- the other set's
   pub other_head : (zone : ℕ) → (zone < first) ⊎ (first + set_zones g l ≤ zone) → OnlyAt (InSet g zone 0 1) a b
       → (head : Super) (bytes : List ℕ) → HoldsSet g first used head bytes a → HoldsSet g first used head bytes b
@@ -80,17 +91,8 @@ module _ (g : Shape) (l : Layout) (fits : Fits g l) (some : 0 < g.zone_blocks) (
     each = λ k above below. still k below ∙ h.each k above below;
   }
     where
-      elsewhere : (k : ℕ) → k < used → InSet g zone 0 1 (first + k / g.zone_blocks) (k % g.zone_blocks) → ⊥
-      elsewhere k below at =
-          let zones = in_zones g l fits some k below in
-          let none = zero-div g.zone_blocks in
-          let here : at.0 ≡ 0 = omega (arith, at.2) in
-          let place : first + k / g.zone_blocks ≡ zone =
-          (let e = ap (λ (n : ℕ). n / g.zone_blocks) here in omega (arith, at.3, e, none)) in
-          elim apart [ inl before ↦ absurd (omega (arith, before, place)) | inr past ↦ absurd (omega (arith, past, place, zones)) ]
-
       still : (k : ℕ) → k < used → set_block b first k ≡ set_block a first k
-      still k below = set_still g first (InSet g zone 0 1) a b some shape only k (inside k below) (elsewhere k below)
+      still k below = set_still g first (InSet g zone 0 1) a b some shape only k (inside k below) (elsewhere zone apart k below)
 
   -- its own one: it has the old head or the new one
   pub own_head : (old new : Super) (bytes : List ℕ) → HasPartOfHead g first new a b → HoldsSet g first used old bytes a
@@ -119,3 +121,21 @@ module _ (g : Shape) (l : Layout) (fits : Fits g l) (some : 0 < g.zone_blocks) (
   same_head image same head bytes h =
       let zone : ℕ = first + set_zones g l in
       other_head zone (inr (omega arith)) (same_only (InSet g zone 0 1) a b image same) head bytes h
+
+  -- both may be written: it has the old head or the new one
+  pub either_head : (zone : ℕ) → (zone < first) ⊎ (first + set_zones g l ≤ zone)
+      → OnlyAt (λ z x. InSet g first 0 1 z x ⊎ InSet g zone 0 1 z x) a b
+      → (old new : Super) (bytes : List ℕ)
+      → (block_at b first 0 ≡ block_at a first 0) ⊎ (good_super b first ≡ Some (head_at g first new))
+      → HoldsSet g first used old bytes a → HoldsSet g first used old bytes b ⊎ HoldsSet g first used new bytes b
+  either_head zone apart only old new bytes put h = elim put [
+    | inl same ↦ inl (record { super = same_good a b first only.geometry same ∙ h.super; each = rest })
+    | inr new_one ↦ inr (record { super = new_one; each = rest })
+  ]
+    where
+      rest : (k : ℕ) → 1 ≤ k → k < used → set_block b first k ≡ blocks_of bytes k 1
+      rest k above below = set_still g first (λ z x. InSet g first 0 1 z x ⊎ InSet g zone 0 1 z x) a b some shape only k (inside k below)
+          (λ at. elim at [
+            | inl own ↦ outside g first 0 1 k some (inr above) own
+            | inr other ↦ elsewhere zone apart k below other
+          ]) ∙ h.each k above below

@@ -1,6 +1,7 @@
 -- Both super blocks of a volume, written one after the other.
 use Rattle.std.proofs.Common.{◌≡◌, ◌⊎◌, Option, Some, None, IsSome, is_some, true, Result, Ok, Err, IsErr, OnOk, ℕ, ◌+◌, ◌-◌, ◌/◌, ◌^◌, ◌<◌, ◌≤◌, min, List, inl, inr, refl, sym, ap, ◌∙◌, subst, arith}
 use Rattle.std.proofs.lemmas.Bool.{cases_lt}
+use Rattle.std.proofs.Math.Nat.{zero-div}
 use Rattle.zd_base.specs.Geometry.{Shape}
 use Rattle.zd_base.specs.Layout.{Fits, set_zones, used_blocks}
 use Rattle.zd_base.specs.declared.layout.Layout.{Layout}
@@ -8,14 +9,14 @@ use Rattle.zd_disk.specs.Told.{WhereTold}
 use Rattle.zd_disk.specs.View.{View, Holds, IsDurable, Made, Reaches, Turns}
 use Rattle.zd_disk.proofs.ViewLaws.{holds_as, holds_durable, read_as, reaches_as, reaches_then, turned, turned_back}
 use Rattle.zd_examine.specs.Opened.{HoldsBothSets, HoldsSet}
-use Rattle.zd_model.specs.Image.{Image, IsImage, Same}
+use Rattle.zd_model.specs.Image.{Image, IsImage, Same, block_at}
 use Rattle.zd_model.specs.Volume.{good_super}
 use Rattle.zd_model.specs.declared.metadata.Super.{Super}
 use Rattle.zd_sets.specs.Equal.{HasSuper, InSet, OnlyAt, head_at}
 use Rattle.zd_sets.specs.declared.choice.Chosen.{Chosen}
-use Rattle.zd_sets.proofs.EqualLaws.{in_zones, only_more, only_then}
-use Rattle.zd_repair.specs.Heads.{AreHeadsAfter, AtFronts, HasGoodSuper, HasPartOfHead, HoldsHeads, IsNextHead, LeavesHeads, MadeUpTo, MovesHeads, calls_done}
-use Rattle.zd_repair.proofs.HeadLaws.{new_head, other_head, own_head, same_head}
+use Rattle.zd_sets.proofs.EqualLaws.{in_zones, only_more, only_then, same_good}
+use Rattle.zd_repair.specs.Heads.{AreHeadsAfter, AtFronts, HasGoodSuper, HasPartOfHead, HasPartOfHeads, HoldsEither, HoldsHeads, IsNextHead, LeavesHeads, MadeUpTo, MovesHeads, calls_done}
+use Rattle.zd_repair.proofs.HeadLaws.{either_head, new_head, other_head, own_head, same_head}
 
 Some-get : {X : Type 0} (o : Option X) → IsSome o → (x : X) × (o ≡ Some x)
 Some-get None h = absurd (let f : ⊥ = cc in f)
@@ -108,6 +109,68 @@ module _ (g : Shape) (old new : Super) (bytes : List ℕ) (some : 0 < g.zone_blo
     second_set = same_head g old.layout fits some n (omega arith) a b shape image same second bytes h.second_set;
   }
 
+  -- a part of the one, and then of the other
+  front_apart : InSet g n 0 1 0 0 → ⊥
+  front_apart at =
+      let here : at.0 ≡ 0 = omega (arith, at.2) in
+      let least = second_zone in
+      absurd (omega (arith, at.3, least))
+
+  second_apart : InSet g 0 0 1 n 0 → ⊥
+  second_apart at =
+      let here : at.0 ≡ 0 = omega (arith, at.2) in
+      let same = ap (λ (k : ℕ). k / g.zone_blocks) here in
+      let none = zero-div g.zone_blocks in
+      let least = second_zone in
+      absurd (omega (arith, at.3, same, none, least))
+
+  second_of : (a b : Image) → a.geometry ≡ g → HasPartOfHead g n new a b → HasPartOfHeads g old.layout new a b
+  second_of a b shape part =
+      let conv = ap (λ (s : Shape). s.conv) shape in
+      let blocks = ap (λ (s : Shape). s.zone_blocks) shape in
+      let room = fits.conventional_data in
+      record {
+        only = only_more (InSet g n 0 1) (AtFronts g old.layout) a b (λ z x at. inl at) part.only;
+        first_super = inl (part.only.elsewhere 0 0 (omega (arith, room, conv)) (omega (arith, some, blocks)) front_apart);
+        second_super = part.super;
+      }
+
+  first_of : (a b : Image) → a.geometry ≡ g → HasPartOfHead g 0 new a b → HasPartOfHeads g old.layout new a b
+  first_of a b shape part =
+      let conv = ap (λ (s : Shape). s.conv) shape in
+      let blocks = ap (λ (s : Shape). s.zone_blocks) shape in
+      let room = fits.conventional_data in
+      record {
+        only = only_more (InSet g 0 0 1) (AtFronts g old.layout) a b (λ z x at. inr at) part.only;
+        first_super = part.super;
+        second_super = inl (part.only.elsewhere n 0 (omega (arith, room, conv)) (omega (arith, some, blocks)) second_apart);
+      }
+
+  heads_then : (a b c : Image) → HasPartOfHeads g old.layout new a b → HasPartOfHeads g old.layout new b c
+      → HasPartOfHeads g old.layout new a c
+  heads_then a b c h k = record {
+    only = only_then (AtFronts g old.layout) a b c h.only k.only;
+    first_super = put_then 0 h.first_super k.first_super;
+    second_super = put_then n h.second_super k.second_super;
+  }
+    where
+      put_then : (zone : ℕ) → (block_at b zone 0 ≡ block_at a zone 0) ⊎ (good_super b zone ≡ Some (head_at g zone new))
+          → (block_at c zone 0 ≡ block_at b zone 0) ⊎ (good_super c zone ≡ Some (head_at g zone new))
+          → (block_at c zone 0 ≡ block_at a zone 0) ⊎ (good_super c zone ≡ Some (head_at g zone new))
+      put_then zone one (inr put) = inr put
+      put_then zone (inl before) (inl same) = inl (same ∙ before)
+      put_then zone (inr put) (inl same) = inr (same_good b c zone k.only.geometry same ∙ put)
+
+  -- each set has the old head or the new one
+  pub heads_either : (a b : Image) → a.geometry ≡ g → HoldsHeads g old.layout old old bytes a → HasPartOfHeads g old.layout new a b
+      → HoldsEither g old new bytes b
+  heads_either a b shape h part = record {
+    first_set = either_head g old.layout fits some 0 (omega arith) a b shape n (inr (omega arith))
+        (only_more (AtFronts g old.layout) (λ z x. InSet g 0 0 1 z x ⊎ InSet g n 0 1 z x) a b
+        (λ z x at. elim at [ inl two ↦ inr two | inr one ↦ inl one ]) part.only) old new bytes part.first_super h.first_set;
+    second_set = either_head g old.layout fits some n (omega arith) a b shape 0 (inl second_zone) part.only old new bytes part.second_super h.second_set;
+  }
+
   -- the calls, from a disk whose sets have the old head
   module _ {u m : View} (told : u.told ≡ Some g) (start : Holds (HoldsHeads g old.layout old old bytes) u)
       (one : Reaches (HasPartOfHead g n new) u m) where
@@ -121,9 +184,8 @@ module _ (g : Shape) (old new : Super) (bytes : List ℕ) (some : 0 < g.zone_blo
     first_good = holds_reached told start (λ a b shape image after h part. good_of b 0 (head_at g 0 old)
         (other_head g old.layout fits some 0 (omega arith) a b shape n (inr (omega arith)) part.only old bytes h.first_set).super) one
 
-    pub second_only : Reaches (OnlyAt (AtFronts g old.layout)) u m
-    second_only = reaches_as told (λ a b shape image after part.
-        only_more (InSet g n 0 1) (AtFronts g old.layout) a b (λ z x at. inl at) part.only) one
+    pub second_way : Reaches (HasPartOfHeads g old.layout new) u m
+    second_way = reaches_as told (λ a b shape image after part. second_of a b shape part) one
 
     -- at each moment of the first two
     early_heads : (done : ℕ) → done ≤ u.calls + 1 → m.calls < 2 ^ 64 - 1 → WhereTold u.zones (λ _. LeavesHeads u.calls done g old new bytes m)
@@ -151,10 +213,9 @@ module _ (g : Shape) (old new : Super) (bytes : List ℕ) (some : 0 < g.zone_blo
           second_put from.0 i (read_as {v = u} told from.0 from.1).geometry (start.now from.0 from.1) from.2)
 
       module _ {v : View} (two : Reaches (HasPartOfHead g 0 new) m v) where
-        pub both_only : Reaches (OnlyAt (AtFronts g old.layout)) u v
-        both_only = reaches_then (λ a b h. h)
-            (λ a b c h part. only_then (AtFronts g old.layout) a b c h
-            (only_more (InSet g 0 0 1) (AtFronts g old.layout) b c (λ z x at. inr at) part.only)) second_only two
+        pub both_way : Reaches (HasPartOfHeads g old.layout new) u v
+        both_way = reaches_then (λ a b h. h) heads_then second_way
+            (reaches_as (one.stays.told g told) (λ a b shape image after part. first_of a b shape part) two)
 
         -- at each moment, where the last call did nothing more
         late_heads : (done : ℕ) → u.calls + 2 ≤ done → done ≤ u.calls + 3 → v.calls < 2 ^ 64 - 1

@@ -34,11 +34,25 @@ pub record MadeUpTo (number : ℕ) (u v : View) : Type 0 where
 abbrev pub AtFronts : Shape → Layout → ℕ → ℕ → Type 0
 AtFronts g l z x = InSet g (set_zones g l) 0 1 z x ⊎ InSet g 0 0 1 z x
 
+-- each of both super blocks is as before, or has this head; no other block changed
+pub record HasPartOfHeads (g : Shape) (l : Layout) (head : Super) (old new : Image) : Type 0 where
+  pub only : OnlyAt (AtFronts g l) old new
+  pub first_super : (block_at new 0 0 ≡ block_at old 0 0) ⊎ (good_super new 0 ≡ Some (head_at g 0 head))
+  pub second_super : (block_at new (set_zones g l) 0 ≡ block_at old (set_zones g l) 0)
+      ⊎ (good_super new (set_zones g l) ≡ Some (head_at g (set_zones g l) head))
+
 -- set 0 has this head and set 1 that one, and both have these blocks
 pub record HoldsHeads (g : Shape) (l : Layout) (first second : Super) (bytes : List ℕ) (i : Image)
     : Type 0 where
   pub first_set : HoldsSet g 0 (used_blocks g l) first bytes i
   pub second_set : HoldsSet g (set_zones g l) (used_blocks g l) second bytes i
+
+-- both sets have these blocks, each with one of two heads
+pub record HoldsEither (g : Shape) (old new : Super) (bytes : List ℕ) (i : Image) : Type 0 where
+  pub first_set : HoldsSet g 0 (used_blocks g old.layout) old bytes i
+      ⊎ HoldsSet g 0 (used_blocks g old.layout) new bytes i
+  pub second_set : HoldsSet g (set_zones g old.layout) (used_blocks g old.layout) old bytes i
+      ⊎ HoldsSet g (set_zones g old.layout) (used_blocks g old.layout) new bytes i
 
 -- Both sets have these blocks, with their heads on the way from an old one to a new one. So many of four calls
 -- have returned, and the next may be under way: a write of the super block of set 1, a flush, a write of

@@ -6,8 +6,8 @@ ghost use Rattle.zd_disk.specs.View.{Fails, Holds, IsDurable, Made, Reaches, Tur
 ghost use Rattle.zd_examine.specs.Examined.{IsUsable};
 ghost use Rattle.zd_examine.specs.Opened.{HoldsBothSets};
 ghost use Rattle.zd_model.specs.Super.{FitsVersion, HasBlock};
-ghost use Rattle.zd_sets.specs.Equal.{HasSuper, head_at, OnlyAt};
-ghost use Rattle.zd_repair.specs.Heads.{AtFronts, HasGoodSuper, HasPartOfHead, HoldsHeads, IsNextHead, MovesHeads, MadeUpTo, calls_done};
+ghost use Rattle.zd_sets.specs.Equal.{HasSuper, head_at};
+ghost use Rattle.zd_repair.specs.Heads.{HasGoodSuper, HasPartOfHead, HasPartOfHeads, HoldsHeads, IsNextHead, MovesHeads, MadeUpTo, calls_done};
 
 use zd_base::{Failed, Geometry, ZoneNo};
 use zd_disk::ZonedDisk;
@@ -73,7 +73,7 @@ pub fn write_heads<D: ZonedDisk>(
     requires fits { FitsVersion head.now }
     ensures ok { OnOk result (Holds (HoldsHeads volume.now.geometry volume.now.chosen.head.layout
         head.now head.now volume.now.blocks) (D.view disk.new)) }
-    ensures way { Reaches (OnlyAt (AtFronts volume.now.geometry volume.now.chosen.head.layout))
+    ensures way { Reaches (HasPartOfHeads volume.now.geometry volume.now.chosen.head.layout head.now)
         (D.view disk.old) (D.view disk.new) }
     ensures moves { MovesHeads volume.now.geometry volume.now.chosen.head head.now volume.now.blocks
         (calls_done result (D.view disk.new).calls) (D.view disk.old) (D.view disk.new) }

@@ -2,6 +2,6 @@
 #![tactic(auto)]
 
 mod heads;
+mod relabeling;
 
-
-
+pub use relabeling::{RelabelFault, relabel};

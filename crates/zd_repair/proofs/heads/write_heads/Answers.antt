@@ -2,7 +2,7 @@ use Rattle.std.proofs.Common.{ℕ, OnOk, subst, arith}
 use Rattle.zd_disk.specs.View.{Reaches, Turns}
 use Rattle.zd_sets.specs.Equal.{HasSuper}
 use Rattle.zd_repair.specs.Heads.{HasPartOfHead}
-use Rattle.zd_repair.proofs.HeadViews.{both_heads, both_only, first_good, moves_both, moves_second, put_where_ok, second_only}
+use Rattle.zd_repair.proofs.HeadViews.{both_heads, both_way, first_good, moves_both, moves_second, put_where_ok, second_way}
 use Rattle.zd_repair.proofs.heads.write_heads.Goals as goal
 
 pub returns-in_err-put_head-clause-way : goal.returns-in_err-put_head-clause-way
@@ -11,7 +11,7 @@ returns-in_err-put_head-clause-way g c =
     let view = g.D.ZonedDisk.view in
     let size = c.zone_blocks-zone_blocks.ensures.shape.size.least in
     let one = subst (λ (z : ℕ). Reaches (HasPartOfHead volume.geometry z c.args.head.now) (view c.args.disk.now) (view c.put_head.new.disk)) c.set_zones.ensures c.put_head.ensures.way in
-    second_only volume.geometry volume.chosen.head c.args.head.now volume.blocks (omega (arith, size)) c.requires.usable.placed.fits c.requires.told (both_heads c.requires.sets) one
+    second_way volume.geometry volume.chosen.head c.args.head.now volume.blocks (omega (arith, size)) c.requires.usable.placed.fits c.requires.told (both_heads c.requires.sets) one
 
 pub returns-in_err-put_head-clause-moves : goal.returns-in_err-put_head-clause-moves
 returns-in_err-put_head-clause-moves g c =
@@ -48,7 +48,7 @@ returns-clause-way g c =
     let size = c.zone_blocks-zone_blocks.ensures.shape.size.least in
     let one = subst (λ (z : ℕ). Reaches (HasPartOfHead volume.geometry z c.args.head.now) (view c.args.disk.now) (view c.put_head.new.disk)) c.set_zones.ensures c.put_head.ensures.way in
     let put = subst (λ (z : ℕ). Turns (HasSuper volume.geometry z c.args.head.now) (view c.args.disk.now) (view c.put_head.new.disk)) c.set_zones.ensures c.in_ok-put_head.ensures.ok in
-    both_only volume.geometry volume.chosen.head c.args.head.now volume.blocks (omega (arith, size)) c.requires.usable.placed.fits
+    both_way volume.geometry volume.chosen.head c.args.head.now volume.blocks (omega (arith, size)) c.requires.usable.placed.fits
     c.requires.told (both_heads c.requires.sets) one put c.in_ok-put_head.ensures.counted c.in_ok-put_head.ensures.durable c.put_head-2.ensures.way
 
 pub returns-clause-moves : goal.returns-clause-moves
