@@ -5,3 +5,4 @@ pub mod HeadChoices
 pub mod HeadVolumes
 pub mod FrontLaws
 pub mod ReheadViews
+pub mod RelabelLaws

@@ -81,6 +81,7 @@ pub fn relabel<D: ZonedDisk>(
         Ok(image) => image,
         Err(fault) => return Err((RelabelFault::Open(fault), disk)),
     };
+    let _zone_blocks = image.geometry.zone_blocks();
     let head = match relabeled(&image.chosen.head, label) {
         Ok(head) => head,
         Err(fault) => return Err((fault, disk)),
