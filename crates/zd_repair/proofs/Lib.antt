@@ -6,3 +6,4 @@ pub mod HeadVolumes
 pub mod FrontLaws
 pub mod ReheadViews
 pub mod RelabelLaws
+pub mod UpgradeLaws

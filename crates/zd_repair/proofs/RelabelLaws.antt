@@ -3,7 +3,8 @@ use Rattle.std.proofs.Common.{◌≡◌, ℕ, List, ap}
 use Rattle.zd_disk.specs.View.{View}
 use Rattle.zd_model.specs.declared.metadata.Super.{Super}
 use Rattle.zd_repair.specs.Heads.{IsNextHead}
-use Rattle.zd_repair.specs.Relabeled.{CannotRelabel, IsOnlyOpened, RelabelLeaves, relabeled}
+use Rattle.zd_repair.specs.Reheaded.{IsOnlyOpened}
+use Rattle.zd_repair.specs.Relabeled.{CannotRelabel, RelabelLeaves, relabeled}
 use Rattle.zd_repair.specs.declared.relabeling.RelabelFault.{RelabelFault}
 use Rattle.zd_repair.specs.declared.relabeling.RelabelFault.TheVariants.{Open, Old, Generation, Device}
 

@@ -3,7 +3,7 @@ use Rattle.std.specs.Prelude.{◌≡◌, ◌⊎◌, ℕ, ◌+◌, ◌-◌, ◌<�
 use Rattle.zd_disk.specs.Told.{WhereTold}
 use Rattle.zd_disk.specs.View.{View, Holds, IsDurable, MadeOf, Turns}
 use Rattle.zd_examine.specs.Examined.{IsUsable}
-use Rattle.zd_examine.specs.Opened.{IsOpened, open_calls}
+use Rattle.zd_examine.specs.Opened.{IsOpened, IsOpening, open_calls}
 use Rattle.zd_examine.specs.declared.examining.Image.{Image as Volume}
 use Rattle.zd_model.specs.Image.{Image}
 use Rattle.zd_model.specs.Volume.{Chosen, IsWellFormed, content}
@@ -16,6 +16,10 @@ use Rattle.zd_repair.specs.Heads.{HoldsHeads, LeavesHeads}
 abbrev pub disk_in : {D E : Type 0} → Result D (E × D) → D
 disk_in (Ok disk) = disk
 disk_in (Err e) = e.1
+
+-- the volume was opened, and nothing else was done
+abbrev pub IsOnlyOpened : View → View → Type 0
+IsOnlyOpened u w = (v : Volume) × IsOpening v u w
 
 -- new is well-formed by a set with this head, which serves from it what set c serves from old
 pub record ServesWith (head : Super) (c : Chosen) (old new : Image) : Type 0 where

@@ -2,14 +2,12 @@
 use Rattle.std.specs.Prelude.{◌≡◌, ℕ, ◌+◌, ◌-◌, ◌^◌, List}
 use Rattle.zd_disk.specs.View.{View}
 use Rattle.zd_examine.specs.Examined.{ExplainsRefusal}
-use Rattle.zd_examine.specs.Opened.{IsFlushed, IsOpening, IsRefusal}
-use Rattle.zd_examine.specs.declared.examining.Image.{Image as Volume}
-use Rattle.zd_examine.specs.declared.examining.OpenFault.{OpenFault}
+use Rattle.zd_examine.specs.Opened.{IsFlushed, IsRefusal}
 use Rattle.zd_examine.specs.declared.examining.OpenFault.TheVariants.{Device as FailedDevice}
 use Rattle.zd_model.specs.Image.{Image}
 use Rattle.zd_model.specs.Volume.{Chosen, IsWellFormed}
 use Rattle.zd_model.specs.declared.metadata.Super.{Super}
-use Rattle.zd_repair.specs.Reheaded.{ChangesHeads}
+use Rattle.zd_repair.specs.Reheaded.{ChangesHeads, IsOnlyOpened}
 use Rattle.zd_repair.specs.declared.relabeling.RelabelFault.{RelabelFault}
 use Rattle.zd_repair.specs.declared.relabeling.RelabelFault.TheVariants.{Open, Old, Generation, Device}
 
@@ -31,10 +29,6 @@ ExplainsRelabel Old image = (c : Chosen) × IsWellFormed image c × (c.head.vers
 ExplainsRelabel Generation image =
     (c : Chosen) × IsWellFormed image c × (c.head.version ≡ 2) × (c.head.generation ≡ 2 ^ 64 - 1)
 ExplainsRelabel Device image = Unit {0}
-
--- the volume was opened, and nothing else was done
-abbrev pub IsOnlyOpened : View → View → Type 0
-IsOnlyOpened u w = (v : Volume) × IsOpening v u w
 
 -- what was done: one flush where the disk is no volume; opening alone where the volume can't have the label;
 -- else the calls up to the one that failed

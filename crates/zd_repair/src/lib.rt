@@ -3,5 +3,7 @@
 
 mod heads;
 mod relabeling;
+mod upgrading;
 
 pub use relabeling::{RelabelFault, relabel};
+pub use upgrading::{UpgradeFault, upgrade};
