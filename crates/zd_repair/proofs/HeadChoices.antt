@@ -1,17 +1,16 @@
 -- Which set is chosen of an image whose sets have two heads of one layout, and the same blocks.
-use Rattle.std.proofs.Common.{◌≡◌, ◌⊎◌, ◌==◌, ◌&&◌, Bool, true, false, Option, Some, None, IsNone, ℕ, ◌+◌, ◌<◌, ◌≤◌, List, nat_lt, inl, inr, refl, sym, ap, ◌∙◌, subst, arith}
+use Rattle.std.proofs.Common.{◌≡◌, ◌==◌, true, false, Option, Some, None, IsNone, ℕ, ◌<◌, ◌≤◌, List, nat_lt, refl, sym, ap, ◌∙◌, subst, arith}
 use Rattle.std.proofs.lemmas.Bool.{eq-eqb, le-ltb}
 use borrow.Author.Tests.{lt-ltb}
 use Rattle.zd_base.specs.Geometry.{Shape}
-use Rattle.zd_base.specs.Layout.{Fits, set_zones, used_blocks}
+use Rattle.zd_base.specs.Layout.{Fits, set_zones}
 use Rattle.zd_base.specs.declared.layout.Layout.{Layout}
-use Rattle.zd_examine.specs.Opened.{HoldsSet}
 use Rattle.zd_model.specs.Image.{Image}
-use Rattle.zd_model.specs.Volume.{Chosen, chosen, first_set, good_super, second_set, second_super}
+use Rattle.zd_model.specs.Volume.{first_set, good_super, second_set, second_super}
 use Rattle.zd_model.specs.declared.metadata.Super.{Super}
 use Rattle.zd_sets.specs.Equal.{head_at}
 use Rattle.zd_sets.specs.Stages.{ChoosesBlocks}
-use Rattle.zd_sets.proofs.ChosenLaws.{first_chosen, good_second, one_is, second_chosen}
+use Rattle.zd_sets.proofs.ChosenLaws.{first_chosen, one_is, second_chosen}
 use Rattle.zd_repair.specs.Heads.{HoldsHeads}
 
 some_none : {X : Type 0} (o : Option X) (x : X) → o ≡ Some x → IsNone o → ⊥

@@ -3,19 +3,18 @@ use Rattle.std.proofs.Common.{◌≡◌, ◌⊎◌, Option, Some, None, IsSome, 
 use Rattle.std.proofs.lemmas.Bool.{cases_lt}
 use Rattle.std.proofs.Math.Nat.{zero-div}
 use Rattle.zd_base.specs.Geometry.{Shape}
-use Rattle.zd_base.specs.Layout.{Fits, set_zones, used_blocks}
-use Rattle.zd_base.specs.declared.layout.Layout.{Layout}
+use Rattle.zd_base.specs.Layout.{Fits, set_zones}
 use Rattle.zd_disk.specs.Told.{WhereTold}
 use Rattle.zd_disk.specs.View.{View, Holds, IsDurable, Made, Reaches, Turns}
 use Rattle.zd_disk.proofs.ViewLaws.{holds_as, holds_durable, read_as, reaches_as, reaches_then, turned, turned_back}
-use Rattle.zd_examine.specs.Opened.{HoldsBothSets, HoldsSet}
+use Rattle.zd_examine.specs.Opened.{HoldsBothSets}
 use Rattle.zd_model.specs.Image.{Image, IsImage, Same, block_at}
 use Rattle.zd_model.specs.Volume.{good_super}
 use Rattle.zd_model.specs.declared.metadata.Super.{Super}
-use Rattle.zd_sets.specs.Equal.{HasSuper, InSet, OnlyAt, head_at}
+use Rattle.zd_sets.specs.Equal.{HasSuper, InSet, head_at}
 use Rattle.zd_sets.specs.declared.choice.Chosen.{Chosen}
 use Rattle.zd_sets.proofs.EqualLaws.{in_zones, only_more, only_then, same_good}
-use Rattle.zd_repair.specs.Heads.{AreHeadsAfter, AtFronts, HasGoodSuper, HasPartOfHead, HasPartOfHeads, HoldsEither, HoldsHeads, IsNextHead, LeavesHeads, MadeUpTo, MovesHeads, calls_done}
+use Rattle.zd_repair.specs.Heads.{AreHeadsAfter, AtFronts, HasGoodSuper, HasPartOfHead, HasPartOfHeads, HoldsEither, HoldsHeads, LeavesHeads, MadeUpTo, MovesHeads, calls_done}
 use Rattle.zd_repair.proofs.HeadLaws.{either_head, new_head, other_head, own_head, same_head}
 
 Some-get : {X : Type 0} (o : Option X) → IsSome o → (x : X) × (o ≡ Some x)

@@ -1,8 +1,7 @@
 -- A volume whose heads change is the same volume.
-use Rattle.std.proofs.Common.{◌≡◌, ◌⊎◌, ℕ, ◌+◌, ◌<◌, ◌≤◌, List, inl, inr, refl, sym, ap, ◌∙◌, subst, arith}
+use Rattle.std.proofs.Common.{◌≡◌, ℕ, ◌<◌, ◌≤◌, List, inl, inr, refl, sym, ap, ◌∙◌, subst, arith}
 use Rattle.zd_base.specs.Geometry.{Shape}
 use Rattle.zd_base.specs.Layout.{Fits}
-use Rattle.zd_base.specs.declared.layout.Layout.{Layout}
 use Rattle.zd_examine.specs.Opened.{ServesContent}
 use Rattle.zd_model.specs.Image.{Image}
 use Rattle.zd_model.specs.Tables.{MapFollowsRules}

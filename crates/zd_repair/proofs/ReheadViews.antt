@@ -1,30 +1,25 @@
 -- A volume that is opened, and whose heads are changed then.
-use Rattle.std.proofs.Common.{◌≡◌, ◌⊎◌, Option, Some, None, ℕ, ◌+◌, ◌-◌, ◌^◌, ◌<◌, ◌≤◌, min, Bool, true, false, List, inl, inr, refl, sym, ap, ◌∙◌, subst, arith}
+use Rattle.std.proofs.Common.{◌≡◌, Some, ℕ, ◌+◌, ◌-◌, ◌^◌, ◌<◌, ◌≤◌, min, inl, inr, sym, ap, ◌∙◌, subst, arith}
 use Rattle.std.proofs.lemmas.Bool.{cases_lt, false≢true}
-use Rattle.std.specs.Prelude.{slice_index}
-use Rattle.zd_base.specs.Geometry.{IsShape, Shape, zone_count}
-use Rattle.zd_base.specs.Layout.{Fits, set_zones, used_blocks}
+use Rattle.zd_base.specs.Geometry.{Shape, zone_count}
 use Rattle.zd_disk.specs.OfGeometry.{IsImageOf}
-use Rattle.zd_disk.specs.Told.{WhereTold}
-use Rattle.zd_disk.specs.View.{View, Holds, IsDurable, Keeps, Made, MadeOf, Reaches, ReachesBy, Turns}
+use Rattle.zd_disk.specs.View.{View, Holds, IsDurable, Made, Reaches, ReachesBy, Turns}
 use Rattle.zd_disk.proofs.ToldLaws.{Both-by}
 use Rattle.zd_disk.proofs.ViewLaws.{stays_then, turned, turns_with}
-use Rattle.zd_examine.specs.Examined.{ArePointers, IsUsable}
+use Rattle.zd_examine.specs.Examined.{IsUsable}
 use Rattle.zd_examine.specs.Opened.{HoldsBothSets, IsLeftOrKept, IsOpened, IsOpening, IsSameVolume, KeepsFrom, ServesContent, open_calls}
-use Rattle.zd_examine.specs.Padded.{HasPad, HasPartOfPad, block_end, needs_pad}
+use Rattle.zd_examine.specs.Padded.{HasPad}
 use Rattle.zd_examine.specs.declared.examining.Image.{Image as Volume}
 use Rattle.zd_examine.proofs.PadSteps.{conventional_none}
 use Rattle.zd_model.specs.Image.{Image, IsImage, SameZone}
-use Rattle.zd_model.specs.Tables.{BitsFollowRules}
 use Rattle.zd_model.specs.Volume.{IsWellFormed}
 use Rattle.zd_model.specs.declared.metadata.Super.{Super}
 use Rattle.zd_model.proofs.EventLaws.{SameZone-trans}
 use Rattle.zd_sets.specs.Choice.{chosen_of}
 use Rattle.zd_sets.specs.Equal.{OnlyAt}
 use Rattle.zd_sets.specs.declared.choice.Chosen.{Chosen as Choice}
-use Rattle.zd_tables.specs.Tables.{entries_in, tables_in}
 use Rattle.zd_repair.specs.Heads.{AreHeadsAfter, AtFronts, HasPartOfHeads, HoldsHeads, IsNextHead, MovesHeads}
-use Rattle.zd_repair.specs.Reheaded.{ChangesHeads, HasChangedHeads, IsVolumeWith, ServesWith, ServesWithEither}
+use Rattle.zd_repair.specs.Reheaded.{ChangesHeads, HasChangedHeads, ServesWith, ServesWithEither}
 use Rattle.zd_repair.proofs.FrontLaws.{serves_still}
 use Rattle.zd_repair.proofs.HeadVolumes.{with_either, with_new}
 use Rattle.zd_repair.proofs.HeadViews.{heads_either}
@@ -174,9 +169,9 @@ module _ (v : Volume) (some : 0 < v.geometry.zone_blocks) {u m w : View} (openin
           each = λ k i above below can. elim (cases_lt k m.calls) [
             | inl early ↦ one.each k i above (omega (arith, early)) (two.earlier k i early can)
             | inr late ↦ (
-              let here = two.each k i late below can in
-              let from = one.each m.calls here.0 later (omega arith) here.1 in
-              (from.0, from.1, inr (late_same low old e k i late below can)))
+                let here = two.each k i late below can in
+                let from = one.each m.calls here.0 later (omega arith) here.1 in
+                (from.0, from.1, inr (late_same low old e k i late below can)))
           ];
         });
   }
@@ -231,12 +226,12 @@ module _ (v : Volume) (some : 0 < v.geometry.zone_blocks) {u m w : View} (openin
       heads = subst (λ (s : Super). Holds (HoldsHeads v.geometry v.chosen.head.layout s s v.blocks) w) (sym changed) heads;
       is_volume = record {
         reads = Both-by u.zones w.zones _ _ (λ old b e z is. (
-            chosen_of v.chosen,
-            is.well_formed,
-            subst (λ (s : Super). ServesWith s (chosen_of v.chosen) old b) (sym changed)
-                (with_new v.geometry v.chosen v.blocks opening.usable.placed.fits opening.usable.map old b (sym is.geometry)
-                (opened_serves v opening.usable some old b is) new next (heads.now b z)),
-          )) opened_then.reads;
+          chosen_of v.chosen,
+          is.well_formed,
+          subst (λ (s : Super). ServesWith s (chosen_of v.chosen) old b) (sym changed)
+              (with_new v.geometry v.chosen v.blocks opening.usable.placed.fits opening.usable.map old b (sym is.geometry)
+              (opened_serves v opening.usable some old b is) new next (heads.now b z)),
+        )) opened_then.reads;
       };
       durable = durable;
       counted = record {

@@ -59,11 +59,7 @@ fn put_head<D: ZonedDisk>(
 /// At any answer, and in what a stop leaves, the used blocks of both sets are as before behind their super
 /// blocks, and each of these is the one before or the new one: that of set 0 the one before until that of set 1
 /// is flushed.
-pub fn write_heads<D: ZonedDisk>(
-    disk: &mut D,
-    volume: &Image,
-    head: &Super,
-) -> Result<(), Failed>
+pub fn write_heads<D: ZonedDisk>(disk: &mut D, volume: &Image, head: &Super) -> Result<(), Failed>
     requires told { (D.view disk.old).told ≡ Some volume.now.geometry }
     requires usable { IsUsable volume.now.geometry volume.now.chosen volume.now.blocks
         volume.now.pointers.items volume.now.named.items }

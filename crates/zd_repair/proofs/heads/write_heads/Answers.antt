@@ -1,4 +1,4 @@
-use Rattle.std.proofs.Common.{ℕ, OnOk, subst, arith}
+use Rattle.std.proofs.Common.{ℕ, subst, arith}
 use Rattle.zd_disk.specs.View.{Reaches, Turns}
 use Rattle.zd_sets.specs.Equal.{HasSuper}
 use Rattle.zd_repair.specs.Heads.{HasPartOfHead}
