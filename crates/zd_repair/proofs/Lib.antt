@@ -7,3 +7,5 @@ pub mod FrontLaws
 pub mod ReheadViews
 pub mod RelabelLaws
 pub mod UpgradeLaws
+pub mod LeftEntries
+pub mod LeftMaps

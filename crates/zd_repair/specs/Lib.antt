@@ -2,3 +2,4 @@ pub mod Heads
 pub mod Reheaded
 pub mod Relabeled
 pub mod Upgraded
+pub mod Repaired

@@ -2,6 +2,7 @@
 #![tactic(auto)]
 
 mod heads;
+mod map;
 mod relabeling;
 mod upgrading;
 
