@@ -110,9 +110,7 @@ pub fn repair_map(tables: &mut VolumeTables, roles: &mut [Role]) -> u32
     let chunks = tables.layout().chunks;
     let mut wrong = 0;
     for chunk in 0..chunks {
-        if repair_entry(tables, roles, ChunkNo(chunk)) {
-            wrong += 1;
-        }
+        wrong += u32::from(repair_entry(tables, roles, ChunkNo(chunk)));
     }
     wrong
 }

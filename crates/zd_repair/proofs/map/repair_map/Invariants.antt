@@ -16,6 +16,7 @@ invariant-loop-chunk l =
       map : IsMapLeft t.geometry t.layout old new l.chunk;
       later : (c : ℕ) → l.chunk ≤ c → new c ≡ old c;
       count : l.wrong ≡ wrong_entries t.geometry t.layout old new l.chunk;
+      few : l.wrong ≤ l.chunk;
       roles : AreRoles t.geometry new l.chunk l.roles;
       bits : (z x : ℕ) → is_valid (tables_held l.tables) z x ≡ is_valid (tables_held t) z x;
       same : SamePlace t l.tables;
