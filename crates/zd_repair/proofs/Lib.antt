@@ -9,3 +9,4 @@ pub mod RelabelLaws
 pub mod UpgradeLaws
 pub mod LeftEntries
 pub mod LeftMaps
+pub mod FewerBits

@@ -1,5 +1,5 @@
 -- What is left of a map and of bitmaps once what is wrong in them is dropped.
-use Rattle.std.specs.Prelude.{◌≡◌, ◌↔◌, ℕ, ◌+◌, ◌*◌, ◌<◌, ◌≤◌, Bool, true, false, not, if◌then◌else◌, IsTrue, List, map, count_by, sum_by, Some, None}
+use Rattle.std.specs.Prelude.{◌≡◌, ◌↔◌, ℕ, ◌+◌, ◌*◌, ◌/◌, ◌<◌, ◌≤◌, Bool, true, false, not, if◌then◌else◌, IsTrue, List, map, count_by, sum_by, Some, None}
 use Rattle.std.specs.List.{flat_map, range_with_len}
 use Rattle.std.specs.Option.{option_map_or}
 use Rattle.zd_base.specs.Geometry.{Shape, zone_count}
@@ -9,6 +9,8 @@ use Rattle.zd_model.specs.Faults.{is_new_zone, is_right_entry}
 use Rattle.zd_model.specs.Tables.{NamesZone, Tables, entry_of, is_valid, zones_of}
 use Rattle.zd_model.specs.declared.metadata.MapEntry.{MapEntry}
 use Rattle.zd_tables.specs.Held.{valid_count}
+use Rattle.zd_examine.specs.declared.roles.Role.{Role}
+use Rattle.zd_examine.specs.declared.roles.Role.TheVariants.{Unnamed, Main, Buffer}
 
 -- the zones that so many of the first chunks name
 abbrev pub named_before : (ℕ → MapEntry) → ℕ → List ℕ
@@ -31,3 +33,27 @@ IsMapLeft g l old new k = (c : ℕ) → c < k → new c ≡ left_of g l (named_b
 abbrev pub wrong_entries : Shape → Layout → (ℕ → MapEntry) → (ℕ → MapEntry) → ℕ → ℕ
 wrong_entries g l old new k =
     count_by (λ c. not (is_right_entry g l (named_before new c) (old c))) (range_with_len 0 k)
+
+-- how many blocks are valid, of all zones together
+abbrev pub valid_total : Shape → Tables → ℕ
+valid_total g t = sum_by (valid_count g.zone_blocks t) (range_with_len 0 (zone_count g))
+
+-- no block at such a place is valid now, each other one is where it was, and the entries stay
+pub record MakesInvalid (At : ℕ → ℕ → Type 0) (old new : Tables) : Type 0 where
+  pub gone : (z x : ℕ) → At z x → is_valid new z x ≡ false
+  pub others : (z x : ℕ) → (At z x → ⊥) → is_valid new z x ≡ is_valid old z x
+  pub fewer : (z x : ℕ) → IsTrue (is_valid new z x) → IsTrue (is_valid old z x)
+  pub entries : (c : ℕ) → entry_of new c ≡ entry_of old c
+
+-- the blocks of a zone from `from` on, below `end`
+abbrev pub IsInRange : ℕ → ℕ → ℕ → ℕ → ℕ → Type 0
+IsInRange zone from end z x = (z ≡ zone) × (from ≤ x) × (x < end)
+
+-- the places that a zone with this role makes wrong for a valid block, where its pointer is so many sectors: its own
+-- blocks where no chunk names it, those that don't end below the pointer of a sequential zone; and of the zone beside
+-- a buffer the blocks that are valid in the buffer
+abbrev pub IsWrongBy : Shape → Tables → Role → ℕ → ℕ → ℕ → ℕ → Type 0
+IsWrongBy g t Unnamed zone pointer z x = IsInRange zone 0 g.zone_blocks z x
+IsWrongBy g t Main zone pointer z x = (g.conv ≤ zone) × IsInRange zone (pointer / 8) g.zone_blocks z x
+IsWrongBy g t (Buffer main) zone pointer z x =
+    IsInRange main 0 g.zone_blocks z x × IsTrue (is_valid t zone x)

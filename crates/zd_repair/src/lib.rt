@@ -1,6 +1,7 @@
 //! Work on the metadata of a disk that is no open volume: new labels, and the upgrade to version 2.
 #![tactic(auto)]
 
+mod bits;
 mod heads;
 mod map;
 mod relabeling;
