@@ -10,3 +10,4 @@ pub mod UpgradeLaws
 pub mod LeftEntries
 pub mod LeftMaps
 pub mod FewerBits
+pub mod InvalidLaws

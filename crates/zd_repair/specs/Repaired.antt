@@ -1,5 +1,5 @@
 -- What is left of a map and of bitmaps once what is wrong in them is dropped.
-use Rattle.std.specs.Prelude.{◌≡◌, ◌↔◌, ℕ, ◌+◌, ◌*◌, ◌/◌, ◌<◌, ◌≤◌, Bool, true, false, not, if◌then◌else◌, IsTrue, List, map, count_by, sum_by, Some, None}
+use Rattle.std.specs.Prelude.{◌≡◌, ◌↔◌, ℕ, ◌+◌, ◌*◌, ◌/◌, ◌<◌, ◌≤◌, Bool, true, false, not, if◌then◌else◌, IsTrue, List, map, count_by, sum_by, slice_index_or, Some, None}
 use Rattle.std.specs.List.{flat_map, range_with_len}
 use Rattle.std.specs.Option.{option_map_or}
 use Rattle.zd_base.specs.Geometry.{Shape, zone_count}
@@ -49,11 +49,24 @@ pub record MakesInvalid (At : ℕ → ℕ → Type 0) (old new : Tables) : Type 
 abbrev pub IsInRange : ℕ → ℕ → ℕ → ℕ → ℕ → Type 0
 IsInRange zone from end z x = (z ≡ zone) × (from ≤ x) × (x < end)
 
+-- the blocks of a zone in a range that are valid in the buffer beside it too
+abbrev pub IsTwice : Tables → ℕ → ℕ → ℕ → ℕ → ℕ → ℕ → Type 0
+IsTwice t buffer main from end z x = IsInRange main from end z x × IsTrue (is_valid t buffer x)
+
 -- the places that a zone with this role makes wrong for a valid block, where its pointer is so many sectors: its own
 -- blocks where no chunk names it, those that don't end below the pointer of a sequential zone; and of the zone beside
 -- a buffer the blocks that are valid in the buffer
 abbrev pub IsWrongBy : Shape → Tables → Role → ℕ → ℕ → ℕ → ℕ → Type 0
 IsWrongBy g t Unnamed zone pointer z x = IsInRange zone 0 g.zone_blocks z x
 IsWrongBy g t Main zone pointer z x = (g.conv ≤ zone) × IsInRange zone (pointer / 8) g.zone_blocks z x
-IsWrongBy g t (Buffer main) zone pointer z x =
-    IsInRange main 0 g.zone_blocks z x × IsTrue (is_valid t zone x)
+IsWrongBy g t (Buffer main) zone pointer z x = IsTwice t zone main 0 g.zone_blocks z x
+
+-- what the map has a zone do, by a list of roles
+abbrev pub role_at : List Role → ℕ → Role
+role_at roles zone = slice_index_or roles zone Main
+
+-- and those of the first zones, so many, each with its role and its pointer
+pub record IsWrongPlace (g : Shape) (t : Tables) (roles : List Role) (pointer : ℕ → ℕ) (k z x : ℕ) : Type 0 where
+  pub zone : ℕ
+  pub low : zone < k
+  pub wrong : IsWrongBy g t (role_at roles zone) zone (pointer zone) z x
