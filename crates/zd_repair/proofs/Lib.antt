@@ -11,3 +11,4 @@ pub mod LeftEntries
 pub mod LeftMaps
 pub mod FewerBits
 pub mod InvalidLaws
+pub mod RoleBits

@@ -2,8 +2,11 @@
 
 ghost use Rattle.std.specs.Prelude.{◌≡◌, ◌≢◌, ◌+◌, ◌<◌, ◌≤◌, ℕ, slice_index, slice_index_or, length};
 ghost use Rattle.zd_base.specs.Geometry.{zone_count};
+ghost use Rattle.zd_examine.specs.Roles.{AreRoles};
+ghost use Rattle.zd_model.specs.Tables.{MapFollowsRules};
+ghost use Rattle.zd_tables.specs.Tables.{entries_in, entry_in_blocks};
 ghost use Rattle.zd_tables.specs.Held.{SamePlace, tables_held};
-ghost use Rattle.zd_repair.specs.Repaired.{IsInRange, IsTwice, IsWrongBy, MakesInvalid, valid_total};
+ghost use Rattle.zd_repair.specs.Repaired.{IsInRange, IsTwice, IsWrongBy, IsWrongPlace, MakesInvalid, valid_total};
 
 use zd_base::ZoneNo;
 use zd_examine::Role;
@@ -68,6 +71,54 @@ fn clear_twice(tables: &mut VolumeTables, buffer: ZoneNo, main: ZoneNo) -> u64
         let (run, more) = clear_run(tables, buffer, main, at);
         at += run;
         cleared += u64::from(more);
+    }
+    cleared
+}
+
+/// Makes the blocks invalid that this zone makes wrong: its own where no chunk names it, those that don't end below
+/// the pointer of a sequential zone, in sectors; and where it is a buffer, the blocks of its chunk's zone that are
+/// valid in it too. It answers how many were valid.
+fn repair_zone(tables: &mut VolumeTables, zone: ZoneNo, role: Role, pointer: u32) -> u64
+    requires zone { zone < zone_count tables.old.geometry }
+    requires role { (main : ℕ) → role ≡ Role.Buffer main → (main < zone_count tables.old.geometry) × (main ≢ zone) }
+    ensures bits { MakesInvalid (IsWrongBy tables.old.geometry (tables_held tables.old) role zone pointer)
+        (tables_held tables.old) (tables_held tables.new) }
+    ensures count { valid_total tables.old.geometry (tables_held tables.new) + result
+        ≡ valid_total tables.old.geometry (tables_held tables.old) }
+    ensures same { SamePlace tables.old tables.new }
+{
+    let zone_blocks = tables.geometry().zone_blocks();
+    let conv = tables.geometry().conv();
+    match role {
+        Role::Unnamed => u64::from(clear_valid(tables, zone, 0, zone_blocks)),
+        Role::Main if zone.0 < conv => 0,
+        Role::Main => {
+            let whole = (pointer / BLOCK_SECTORS).min(zone_blocks);
+            u64::from(clear_valid(tables, zone, whole, zone_blocks))
+        }
+        Role::Buffer(main) => clear_twice(tables, zone, main),
+    }
+}
+
+/// Makes all blocks invalid that are valid against a rule, where the map has zones do this and their pointers, in
+/// sectors, are these. It answers how many there were.
+pub fn repair_bits(tables: &mut VolumeTables, roles: &[Role], pointers: &[u32]) -> u64
+    requires map { MapFollowsRules tables.old.geometry tables.old.layout
+        (entries_in tables.old.layout tables.old.bytes) }
+    requires roles { AreRoles tables.old.geometry (entry_in_blocks tables.old.bytes) tables.old.layout.chunks roles.now }
+    requires pointers { length pointers.now ≡ zone_count tables.old.geometry }
+    ensures bits { MakesInvalid (IsWrongPlace tables.old.geometry (tables_held tables.old) roles.now
+        (slice_index pointers.now) (zone_count tables.old.geometry))
+        (tables_held tables.old) (tables_held tables.new) }
+    ensures count { valid_total tables.old.geometry (tables_held tables.new) + result
+        ≡ valid_total tables.old.geometry (tables_held tables.old) }
+    ensures same { SamePlace tables.old tables.new }
+{
+    let zones = tables.geometry().zones();
+    let mut cleared = 0u64;
+    for zone in 0..zones {
+        let i = zone as usize;
+        cleared += repair_zone(tables, ZoneNo(zone), roles[i], pointers[i]);
     }
     cleared
 }
