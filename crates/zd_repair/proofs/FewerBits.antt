@@ -111,3 +111,9 @@ module _ (g : Shape) (old new : Tables) (zone from end : ℕ) (order : from ≤ 
       sum_less (valid_count g.zone_blocks old) (valid_count g.zone_blocks new) zone r here
       (λ y other. passing_as (is_valid new y) (is_valid old y) g.zone_blocks (λ x low. changes.others y x other))
       0 (zone_count g) (omega arith) (omega (arith, low))
+
+-- bits that are the same have the same count
+pub total_same : (g : Shape) (a b : Tables) → ((z x : ℕ) → is_valid a z x ≡ is_valid b z x) → valid_total g a ≡ valid_total g b
+total_same g a b same =
+    sum_as (valid_count g.zone_blocks b) (valid_count g.zone_blocks a) 0 (zone_count g)
+    (λ z low. passing_as (is_valid a z) (is_valid b z) g.zone_blocks (λ x less. same z x))

@@ -12,3 +12,5 @@ pub mod LeftMaps
 pub mod FewerBits
 pub mod InvalidLaws
 pub mod RoleBits
+pub mod RepairedMaps
+pub mod LeftTables

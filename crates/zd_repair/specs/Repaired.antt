@@ -9,6 +9,7 @@ use Rattle.zd_model.specs.Faults.{is_new_zone, is_right_entry}
 use Rattle.zd_model.specs.Tables.{NamesZone, Tables, entry_of, is_valid, zones_of}
 use Rattle.zd_model.specs.declared.metadata.MapEntry.{MapEntry}
 use Rattle.zd_tables.specs.Held.{valid_count}
+use Rattle.zd_repair.specs.declared.tables.Repaired.{Repaired}
 use Rattle.zd_examine.specs.declared.roles.Role.{Role}
 use Rattle.zd_examine.specs.declared.roles.Role.TheVariants.{Unnamed, Main, Buffer}
 
@@ -70,3 +71,23 @@ pub record IsWrongPlace (g : Shape) (t : Tables) (roles : List Role) (pointer : 
   pub zone : ℕ
   pub low : zone < k
   pub wrong : IsWrongBy g t (role_at roles zone) zone (pointer zone) z x
+
+-- a block that was valid may stay so: a chunk names its zone now, it ends below the pointer of a sequential zone, and
+-- it wasn't valid in the buffer beside the zone too
+pub record MayStayValid (g : Shape) (pointer : ℕ → ℕ) (old new : Tables) (z x : ℕ) : Type 0 where
+  pub named : (c : ℕ) × NamesZone (entry_of new c) z
+  pub below : g.conv ≤ z → 8 * x + 8 ≤ pointer z
+  pub alone : (c b : ℕ) → (entry_of new c).zone ≡ Some z → (entry_of new c).buffer ≡ Some b → is_valid old b x ≡ false
+
+-- new is what is left of old where what is wrong in the map is dropped, and then what is wrong in the bitmaps by that
+-- map is cleared. Bits past a zone's blocks are as they were.
+pub record IsLeftOf (g : Shape) (l : Layout) (pointer : ℕ → ℕ) (old new : Tables) : Type 0 where
+  pub map : IsMapLeft g l (entry_of old) (entry_of new) l.chunks
+  pub bits : (z x : ℕ) → z < zone_count g → x < g.zone_blocks →
+      IsTrue (is_valid new z x) ↔ (IsTrue (is_valid old z x) × MayStayValid g pointer old new z x)
+  pub beyond : (z x : ℕ) → g.zone_blocks ≤ x → is_valid new z x ≡ is_valid old z x
+
+-- so many entries had something wrong, and so many blocks are no longer valid
+pub record CountsDropped (g : Shape) (l : Layout) (old new : Tables) (dropped : Repaired) : Type 0 where
+  pub entries : dropped.entries ≡ wrong_entries g l (entry_of old) (entry_of new) l.chunks
+  pub bits : valid_total g new + dropped.bits ≡ valid_total g old

@@ -5,7 +5,9 @@ mod bits;
 mod heads;
 mod map;
 mod relabeling;
+mod tables;
 mod upgrading;
 
 pub use relabeling::{RelabelFault, relabel};
+pub use tables::Repaired;
 pub use upgrading::{UpgradeFault, upgrade};
