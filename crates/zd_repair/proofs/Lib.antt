@@ -14,3 +14,4 @@ pub mod InvalidLaws
 pub mod RoleBits
 pub mod RepairedMaps
 pub mod LeftTables
+pub mod CommitLaws

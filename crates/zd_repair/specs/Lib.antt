@@ -3,3 +3,4 @@ pub mod Reheaded
 pub mod Relabeled
 pub mod Upgraded
 pub mod Repaired
+pub mod Committed

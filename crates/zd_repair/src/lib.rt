@@ -2,6 +2,7 @@
 #![tactic(auto)]
 
 mod bits;
+mod commit;
 mod heads;
 mod map;
 mod relabeling;
