@@ -15,3 +15,4 @@ pub mod RoleBits
 pub mod RepairedMaps
 pub mod LeftTables
 pub mod CommitLaws
+pub mod CommitViews
