@@ -4,3 +4,4 @@ pub mod Relabeled
 pub mod Upgraded
 pub mod Repaired
 pub mod Committed
+pub mod Finished

@@ -6,9 +6,11 @@ mod commit;
 mod heads;
 mod map;
 mod relabeling;
+mod repairing;
 mod tables;
 mod upgrading;
 
 pub use relabeling::{RelabelFault, relabel};
+pub use repairing::RepairFault;
 pub use tables::Repaired;
 pub use upgrading::{UpgradeFault, upgrade};

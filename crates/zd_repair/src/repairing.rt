@@ -1,0 +1,107 @@
+//! A disk whose tables are wrong made a volume again.
+
+ghost use Rattle.std.specs.Prelude.{◌≡◌, ◌+◌, ◌*◌, ◌<◌, ◌≤◌, ◌^◌, ◌-◌, ℕ, Some, IfErr, IfOk, IfSome, IsNone, OnErr, OnOk, length, slice_index};
+ghost use Rattle.zd_base.specs.Geometry.{zone_count, zone_sectors};
+ghost use Rattle.zd_base.specs.Layout.{used_blocks};
+ghost use Rattle.zd_disk.specs.Told.{WhereTold};
+ghost use Rattle.zd_disk.specs.View.{HasFailed, Holds, IsDurable, Keeps, OnlyReads, Reaches};
+ghost use Rattle.zd_examine.specs.Opened.{HoldsBothSets};
+ghost use Rattle.zd_model.specs.Super.{FitsVersion};
+ghost use Rattle.zd_sets.specs.Choice.{IsPlacedChoice};
+ghost use Rattle.zd_sets.specs.Equal.{OnlyAt};
+ghost use Rattle.zd_sets.specs.Stages.{next_head};
+ghost use Rattle.zd_repair.specs.Committed.{InBothSets};
+ghost use Rattle.zd_repair.specs.Finished.{ExplainsFinish, HasFinished, IsFinishing};
+
+use crate::commit::commit_blocks;
+use crate::tables::{Repaired, repair_tables};
+use std::alloc::Global;
+use zd_base::{Failed, Geometry};
+use zd_disk::ZonedDisk;
+use zd_examine::read_pointers;
+use zd_model::Super;
+use zd_sets::{Chosen, ReadFault, SetBlocks, SetFault, choose, read_set};
+use zd_tables::VolumeTables;
+
+/// Why a disk wasn't repaired.
+#[derive(Clone, Copy, Debug, PartialEq, Eq)]
+pub enum RepairFault {
+    /// No set of metadata is chosen: no super block is good where it has to be.
+    NoSuperBlock,
+    /// The layout of the chosen set doesn't fit the disk, or another block could be taken for a super block.
+    Layout,
+    /// A call of the disk failed.
+    Device,
+    /// Something is wrong in the tables, and the generation is the last one. Both sets were made equal, and nothing else
+    /// was written.
+    Generation,
+    /// No memory was found.
+    Memory,
+}
+
+/// A set of metadata whose tables may be wrong, as it was found on a disk.
+#[derive(Drop)]
+pub struct Found {
+    /// The chosen set.
+    pub chosen: Chosen,
+    /// Its used blocks.
+    pub blocks: SetBlocks,
+    /// For each zone its pointer in sectors, 0 for conventional zones.
+    pub pointers: Vec<u32>,
+}
+
+/// The head of the next generation. None where the generation is the last one.
+fn raised(head: &Super) -> Option<Super>
+    requires { FitsVersion head.now }
+    ensures some { IfSome result (λ next. next ≡ next_head head.now) }
+    ensures fits { IfSome result FitsVersion }
+    ensures rises { IfSome result (λ _. head.now.generation + 1 < 2 ^ 64) }
+    ensures none { IsNone result → head.now.generation ≡ 2 ^ 64 - 1 }
+{
+    let generation = head.generation.checked_add(1)?;
+    Some(Super {
+        generation,
+        ..*head
+    })
+}
+
+/// Drops what is wrong in the tables of a set that was found, where both sets of the disk have its blocks, and commits
+/// what is left where something was wrong.
+fn finish<D: ZonedDisk>(
+    alloc: Global,
+    disk: &mut D,
+    geometry: Geometry,
+    found: Found,
+) -> Result<Repaired, RepairFault>
+    requires told { (D.view disk.old).told ≡ Some geometry }
+    requires placed { IsPlacedChoice geometry found.chosen }
+    requires size { length found.blocks ≡ 4096 * used_blocks geometry found.chosen.head.layout }
+    requires pointers { length found.pointers.items ≡ zone_count geometry }
+    requires sets { Holds (HoldsBothSets geometry found.chosen found.blocks) (D.view disk.old) }
+    ensures ok { IfOk result (λ dropped. HasFinished geometry found.chosen found.blocks found.pointers.items dropped
+        (D.view disk.old) (D.view disk.new)) }
+    ensures err { IfErr result (ExplainsFinish geometry found.chosen found.blocks found.pointers.items
+        (D.view disk.old) (D.view disk.new)) }
+    ensures way { Reaches (OnlyAt (InBothSets geometry found.chosen.head.layout))
+        (D.view disk.old) (D.view disk.new) }
+    ensures kept { Keeps (IsFinishing geometry found.chosen found.blocks found.pointers.items)
+        (D.view disk.old) (D.view disk.new) }
+{
+    let layout = found.chosen.head.layout;
+    let Ok(mut tables) = VolumeTables::new(alloc, geometry, layout, found.blocks) else {
+        return Err(RepairFault::Memory);
+    };
+    let Ok(dropped) = repair_tables(alloc, &mut tables, &found.pointers) else {
+        return Err(RepairFault::Memory);
+    };
+    if dropped.entries == 0 && dropped.bits == 0 {
+        return Ok(dropped);
+    }
+    let Some(head) = raised(&found.chosen.head) else {
+        return Err(RepairFault::Generation);
+    };
+    match commit_blocks(disk, &geometry, &head, tables.blocks()) {
+        Ok(()) => Ok(dropped),
+        Err(Failed) => Err(RepairFault::Device),
+    }
+}
