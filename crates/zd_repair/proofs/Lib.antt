@@ -16,3 +16,4 @@ pub mod RepairedMaps
 pub mod LeftTables
 pub mod CommitLaws
 pub mod CommitViews
+pub mod FinishLaws

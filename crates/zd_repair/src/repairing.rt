@@ -2,7 +2,7 @@
 
 ghost use Rattle.std.specs.Prelude.{◌≡◌, ◌+◌, ◌*◌, ◌<◌, ◌≤◌, ◌^◌, ◌-◌, ℕ, Some, IfErr, IfOk, IfSome, IsNone, OnErr, OnOk, length, slice_index};
 ghost use Rattle.zd_base.specs.Geometry.{zone_count, zone_sectors};
-ghost use Rattle.zd_base.specs.Layout.{used_blocks};
+ghost use Rattle.zd_base.specs.Layout.{Fits, used_blocks};
 ghost use Rattle.zd_disk.specs.Told.{WhereTold};
 ghost use Rattle.zd_disk.specs.View.{HasFailed, Holds, IsDurable, Keeps, OnlyReads, Reaches};
 ghost use Rattle.zd_examine.specs.Opened.{HoldsBothSets};
@@ -11,12 +11,12 @@ ghost use Rattle.zd_sets.specs.Choice.{IsPlacedChoice};
 ghost use Rattle.zd_sets.specs.Equal.{OnlyAt};
 ghost use Rattle.zd_sets.specs.Stages.{next_head};
 ghost use Rattle.zd_repair.specs.Committed.{InBothSets};
-ghost use Rattle.zd_repair.specs.Finished.{ExplainsFinish, HasFinished, IsFinishing};
+ghost use Rattle.zd_repair.specs.Finished.{AreLeftBlocks, ExplainsFinish, HasFinished, IsFinishing};
 
 use crate::commit::commit_blocks;
 use crate::tables::{Repaired, repair_tables};
 use std::alloc::Global;
-use zd_base::{Failed, Geometry};
+use zd_base::{Failed, Geometry, Layout, Memory};
 use zd_disk::ZonedDisk;
 use zd_examine::read_pointers;
 use zd_model::Super;
@@ -65,6 +65,29 @@ fn raised(head: &Super) -> Option<Super>
     })
 }
 
+/// What is left of the tables in the blocks of a set, and how much was dropped.
+fn left_blocks(
+    alloc: Global,
+    geometry: Geometry,
+    layout: Layout,
+    blocks: SetBlocks,
+    pointers: &[u32],
+) -> Result<(Repaired, SetBlocks), Memory>
+    requires fits { Fits geometry layout }
+    requires size { length blocks ≡ 4096 * used_blocks geometry layout }
+    requires pointers { length pointers.now ≡ zone_count geometry }
+    ensures { IfOk result (λ left. AreLeftBlocks geometry layout blocks pointers.now left.0 left.1) }
+{
+    let mut tables = VolumeTables::new(alloc, geometry, layout, blocks)?;
+    match repair_tables(alloc, &mut tables, pointers) {
+        Ok(dropped) => {
+            let _size = tables.blocks();
+            Ok((dropped, tables.into_blocks()))
+        }
+        Err(_) => Err(Memory),
+    }
+}
+
 /// Drops what is wrong in the tables of a set that was found, where both sets of the disk have its blocks, and commits
 /// what is left where something was wrong.
 fn finish<D: ZonedDisk>(
@@ -88,19 +111,16 @@ fn finish<D: ZonedDisk>(
         (D.view disk.old) (D.view disk.new) }
 {
     let layout = found.chosen.head.layout;
-    let Ok(mut tables) = VolumeTables::new(alloc, geometry, layout, found.blocks) else {
+    let Ok((dropped, blocks)) = left_blocks(alloc, geometry, layout, found.blocks, &found.pointers) else {
         return Err(RepairFault::Memory);
     };
-    let Ok(dropped) = repair_tables(alloc, &mut tables, &found.pointers) else {
-        return Err(RepairFault::Memory);
-    };
-    if dropped.entries == 0 && dropped.bits == 0 {
+    if dropped.is_nothing() {
         return Ok(dropped);
     }
     let Some(head) = raised(&found.chosen.head) else {
         return Err(RepairFault::Generation);
     };
-    match commit_blocks(disk, &geometry, &head, tables.blocks()) {
+    match commit_blocks(disk, &geometry, &head, &blocks) {
         Ok(()) => Ok(dropped),
         Err(Failed) => Err(RepairFault::Device),
     }
