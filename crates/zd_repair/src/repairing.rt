@@ -111,7 +111,7 @@ fn finish<D: ZonedDisk>(
         (D.view disk.old) (D.view disk.new) }
 {
     let layout = found.chosen.head.layout;
-    let Ok((dropped, blocks)) = left_blocks(alloc, geometry, layout, found.blocks, &found.pointers) else {
+    let Ok((dropped, left)) = left_blocks(alloc, geometry, layout, found.blocks, &found.pointers) else {
         return Err(RepairFault::Memory);
     };
     if dropped.is_nothing() {
@@ -120,7 +120,7 @@ fn finish<D: ZonedDisk>(
     let Some(head) = raised(&found.chosen.head) else {
         return Err(RepairFault::Generation);
     };
-    match commit_blocks(disk, &geometry, &head, &blocks) {
+    match commit_blocks(disk, &geometry, &head, &left) {
         Ok(()) => Ok(dropped),
         Err(Failed) => Err(RepairFault::Device),
     }
