@@ -17,3 +17,6 @@ pub mod LeftTables
 pub mod CommitLaws
 pub mod CommitViews
 pub mod FinishLaws
+pub mod LeftRules
+pub mod RepairStages
+pub mod RepairEnds

@@ -5,3 +5,4 @@ pub mod Upgraded
 pub mod Repaired
 pub mod Committed
 pub mod Finished
+pub mod Repairing
