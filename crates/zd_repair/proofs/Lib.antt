@@ -20,3 +20,4 @@ pub mod FinishLaws
 pub mod LeftRules
 pub mod RepairStages
 pub mod RepairEnds
+pub mod MendViews

@@ -3,7 +3,7 @@ use Rattle.std.specs.Prelude.{◌≡◌, ◌⊎◌, ℕ, ◌+◌, ◌-◌, ◌*�
 use Rattle.zd_base.specs.Geometry.{Shape}
 use Rattle.zd_base.specs.Layout.{set_zones, used_blocks}
 use Rattle.zd_disk.specs.Told.{Both, WhereTold}
-use Rattle.zd_disk.specs.View.{View, HasFailed, IsDurable, Turns}
+use Rattle.zd_disk.specs.View.{View, HasFailed, IsDurable, MadeOf, Turns}
 use Rattle.zd_examine.specs.Examined.{IsPlacedSet}
 use Rattle.zd_examine.specs.Opened.{IsFlushed}
 use Rattle.zd_model.specs.Image.{Image, Same, set_block}
@@ -107,6 +107,12 @@ pub record CountsRepair (c : Chosen) (dropped : Repaired) (from to : ℕ) (old n
   pub something : (IsNothing dropped → ⊥) →
       to ≡ from + equal_calls c (used_blocks old.geometry c.head.layout) old + 2 * changed_blocks c old new + 6
 
+-- the same of a disk whose chosen set was found
+pub record HasMended (c : Chosen) (dropped : Repaired) (u v : View) : Type 0 where
+  pub repaired : Turns (IsRepair (chosen_of c) dropped) u v
+  pub durable : IsDurable v
+  pub counted : v.calls < 2 ^ 64 - 1 → Both u.zones v.zones (CountsRepair c dropped u.calls v.calls)
+
 -- by what the disk told before and tells now
 pub record HasRepaired (dropped : Repaired) (u v : View) : Type 0 where
   pub repaired : Turns (λ old new. (c : Set) × IsPlacedSet old c × IsRepair c dropped old new) u v
@@ -119,6 +125,38 @@ pub record IsMadeSame (c : Chosen) (old new : Image) : Type 0 where
   pub only : OnlyAt (InSet old.geometry c.other 0 (used_blocks old.geometry c.head.layout)) old new
   pub sets : HasEqualSets old.geometry c.head new
   pub tables : tables_of new (equal_set old.geometry c.head) ≡ tables_of old (chosen_of c)
+
+-- and nothing else was done since the chosen set was found, as its generation is the last
+pub record CannotMend (c : Chosen) (u v : View) : Type 0 where
+  pub last : c.head.generation ≡ 2 ^ 64 - 1
+  pub wrong : WhereTold u.zones (HasWrong (chosen_of c))
+  pub equal : Turns (IsMadeSame c) u v
+  pub durable : IsDurable v
+  pub counted : MadeOf (λ old. equal_calls c (used_blocks old.geometry c.head.layout) old) u v
+
+-- what a repair that failed did then
+abbrev pub MendLeaves : Chosen → View → View → RepairFault → Type 0
+MendLeaves c u v NoSuperBlock = ⊥
+MendLeaves c u v Layout = ⊥
+MendLeaves c u v Device = HasFailed u v
+MendLeaves c u v Generation = CannotMend c u v
+MendLeaves c u v Memory = Unit {0}
+
+-- why no set was found
+abbrev pub ExplainsFind : RepairFault → Image → Type 0
+ExplainsFind NoSuperBlock image = chosen image ≡ None
+ExplainsFind Layout image = (c : Set) × (chosen image ≡ Some c) × IsMisplaced image c
+ExplainsFind Device image = Unit {0}
+ExplainsFind Generation image = ⊥
+ExplainsFind Memory image = Unit {0}
+
+-- the faults of that
+abbrev pub IsFindFault : RepairFault → Type 0
+IsFindFault NoSuperBlock = Unit {0}
+IsFindFault Layout = Unit {0}
+IsFindFault Device = Unit {0}
+IsFindFault Generation = ⊥
+IsFindFault Memory = Unit {0}
 
 -- and nothing else was done
 pub record HasOnlyEqualled (u v : View) : Type 0 where

@@ -1,17 +1,20 @@
 //! A disk whose tables are wrong made a volume again.
 
-ghost use Rattle.std.specs.Prelude.{◌≡◌, ◌+◌, ◌*◌, ◌<◌, ◌≤◌, ◌^◌, ◌-◌, ℕ, Some, IfErr, IfOk, IfSome, IsNone, OnErr, OnOk, length, slice_index};
+ghost use Rattle.std.specs.Prelude.{◌≡◌, ◌+◌, ◌*◌, ◌<◌, ◌≤◌, ◌^◌, ◌-◌, ℕ, Some, Err, IfErr, IfOk, IfSome, IsNone, OnErr, OnOk, length, slice_index};
 ghost use Rattle.zd_base.specs.Geometry.{zone_count, zone_sectors};
 ghost use Rattle.zd_base.specs.Layout.{Fits, used_blocks};
 ghost use Rattle.zd_disk.specs.Told.{WhereTold};
 ghost use Rattle.zd_disk.specs.View.{HasFailed, Holds, IsDurable, Keeps, OnlyReads, Reaches};
+ghost use Rattle.zd_examine.specs.Examined.{ArePointers};
 ghost use Rattle.zd_examine.specs.Opened.{HoldsBothSets};
 ghost use Rattle.zd_model.specs.Super.{FitsVersion};
-ghost use Rattle.zd_sets.specs.Choice.{IsPlacedChoice};
+ghost use Rattle.zd_sets.specs.Blocks.{AreBlocks};
+ghost use Rattle.zd_sets.specs.Choice.{IsChoice, IsPlacedChoice, chosen_of};
 ghost use Rattle.zd_sets.specs.Equal.{OnlyAt};
 ghost use Rattle.zd_sets.specs.Stages.{next_head};
 ghost use Rattle.zd_repair.specs.Committed.{InBothSets};
 ghost use Rattle.zd_repair.specs.Finished.{AreLeftBlocks, ExplainsFinish, HasFinished, IsFinishing};
+ghost use Rattle.zd_repair.specs.Repairing.{ExplainsFind, HasMended, IsFindFault, IsPartOfRepair, MendLeaves};
 
 use crate::commit::commit_blocks;
 use crate::tables::{Repaired, repair_tables};
@@ -20,7 +23,7 @@ use zd_base::{Failed, Geometry, Layout, Memory};
 use zd_disk::ZonedDisk;
 use zd_examine::read_pointers;
 use zd_model::Super;
-use zd_sets::{Chosen, ReadFault, SetBlocks, SetFault, choose, read_set};
+use zd_sets::{Chosen, ReadFault, SetBlocks, SetFault, choose, make_equal, read_set};
 use zd_tables::VolumeTables;
 
 /// Why a disk wasn't repaired.
@@ -123,5 +126,75 @@ fn finish<D: ZonedDisk>(
     match commit_blocks(disk, &geometry, &head, &left) {
         Ok(()) => Ok(dropped),
         Err(Failed) => Err(RepairFault::Device),
+    }
+}
+
+/// Makes both sets equal, drops what is wrong in the tables of the set that was found, and commits what is left where
+/// something was wrong.
+fn mend<D: ZonedDisk>(
+    alloc: Global,
+    disk: &mut D,
+    geometry: Geometry,
+    found: Found,
+) -> Result<Repaired, RepairFault>
+    requires told { (D.view disk.old).told ≡ Some geometry }
+    requires placed { IsPlacedChoice geometry found.chosen }
+    requires size { length found.blocks ≡ 4096 * used_blocks geometry found.chosen.head.layout }
+    requires pointers { length found.pointers.items ≡ zone_count geometry }
+    requires value { WhereTold (D.view disk.old).zones (λ image. IsChoice found.chosen image
+        × AreBlocks image found.chosen.zone (used_blocks geometry found.chosen.head.layout) found.blocks
+        × ArePointers image found.pointers.items) }
+    ensures ok { IfOk result (λ dropped. HasMended found.chosen dropped (D.view disk.old) (D.view disk.new)) }
+    ensures err { IfErr result (MendLeaves found.chosen (D.view disk.old) (D.view disk.new)) }
+    ensures way { Reaches (OnlyAt (InBothSets geometry found.chosen.head.layout))
+        (D.view disk.old) (D.view disk.new) }
+    ensures kept { Keeps (IsPartOfRepair (chosen_of found.chosen)) (D.view disk.old) (D.view disk.new) }
+{
+    let _zone_blocks = geometry.zone_blocks();
+    match make_equal(disk, &geometry, &found.chosen, &found.blocks) {
+        Err(Failed) => Err(RepairFault::Device),
+        Ok(()) => finish(alloc, disk, geometry, found),
+    }
+}
+
+/// Finds the chosen set of a disk with its used blocks, and the pointers of the zones. Nothing is written, and no table
+/// is judged.
+fn find<D: ZonedDisk>(
+    alloc: Global,
+    disk: &mut D,
+    geometry: &Geometry,
+) -> Result<Found, RepairFault>
+    requires told { (D.view disk.old).told ≡ Some geometry.now }
+    ensures placed { IfOk result (λ found. IsPlacedChoice geometry.now found.chosen) }
+    ensures size { IfOk result (λ found.
+        length found.blocks ≡ 4096 * used_blocks geometry.now found.chosen.head.layout) }
+    ensures pointers { IfOk result (λ found. length found.pointers.items ≡ zone_count geometry.now) }
+    ensures value { IfOk result (λ found. WhereTold (D.view disk.old).zones (λ image. IsChoice found.chosen image
+        × AreBlocks image found.chosen.zone (used_blocks geometry.now found.chosen.head.layout) found.blocks
+        × ArePointers image found.pointers.items)) }
+    ensures err { IfErr result (λ fault. WhereTold (D.view disk.old).zones (ExplainsFind fault)) }
+    ensures kind { IfErr result IsFindFault }
+    ensures reads { OnlyReads (D.view disk.old) (D.view disk.new) }
+    ensures cause { result ≡ Err RepairFault.Device → HasFailed (D.view disk.old) (D.view disk.new) }
+{
+    let chosen = match choose(disk, geometry) {
+        Ok(chosen) => chosen,
+        Err(SetFault::NoSuperBlock) => return Err(RepairFault::NoSuperBlock),
+        Err(SetFault::Layout) => return Err(RepairFault::Layout),
+        Err(SetFault::Device) => return Err(RepairFault::Device),
+    };
+    let blocks = match read_set(alloc, disk, geometry, &chosen) {
+        Ok(blocks) => blocks,
+        Err(ReadFault::Device) => return Err(RepairFault::Device),
+        Err(ReadFault::Memory) => return Err(RepairFault::Memory),
+    };
+    match read_pointers(alloc, disk, geometry) {
+        Ok(pointers) => Ok(Found {
+            chosen,
+            blocks,
+            pointers,
+        }),
+        Err(ReadFault::Device) => Err(RepairFault::Device),
+        Err(ReadFault::Memory) => Err(RepairFault::Memory),
     }
 }
