@@ -1,5 +1,5 @@
 -- A disk that is repaired: what is left of it at the end, and what a stop leaves.
-use Rattle.std.specs.Prelude.{◌≡◌, ◌⊎◌, ℕ, ◌+◌, ◌-◌, ◌*◌, ◌<◌, ◌≤◌, ◌^◌, Some, None}
+use Rattle.std.specs.Prelude.{◌≡◌, ◌⊎◌, ℕ, ◌+◌, ◌-◌, ◌*◌, ◌<◌, ◌≤◌, ◌^◌, Some, None, Result, Ok, Err}
 use Rattle.zd_base.specs.Geometry.{Shape}
 use Rattle.zd_base.specs.Layout.{set_zones, used_blocks}
 use Rattle.zd_disk.specs.Told.{Both, WhereTold}
@@ -173,6 +173,11 @@ ExplainsRepair Device image = Unit {0}
 ExplainsRepair Generation image =
     (c : Set) × IsPlacedSet image c × (c.head.generation ≡ 2 ^ 64 - 1) × HasWrong c image
 ExplainsRepair Memory image = Unit {0}
+
+-- the disk that an answer hands back
+abbrev pub disk_after : {D : Type 0} → Result (Repaired × D) (RepairFault × D) → D
+disk_after (Ok r) = r.1
+disk_after (Err e) = e.1
 
 -- what was done then
 abbrev pub RepairLeaves : RepairFault → View → View → Type 0

@@ -11,6 +11,6 @@ mod tables;
 mod upgrading;
 
 pub use relabeling::{RelabelFault, relabel};
-pub use repairing::RepairFault;
+pub use repairing::{RepairFault, repair};
 pub use tables::Repaired;
 pub use upgrading::{UpgradeFault, upgrade};

@@ -4,7 +4,7 @@ ghost use Rattle.std.specs.Prelude.{◌≡◌, ◌+◌, ◌*◌, ◌<◌, ◌≤
 ghost use Rattle.zd_base.specs.Geometry.{zone_count, zone_sectors};
 ghost use Rattle.zd_base.specs.Layout.{Fits, used_blocks};
 ghost use Rattle.zd_disk.specs.Told.{WhereTold};
-ghost use Rattle.zd_disk.specs.View.{HasFailed, Holds, IsDurable, Keeps, OnlyReads, Reaches};
+ghost use Rattle.zd_disk.specs.View.{HasFailed, Holds, IsDurable, Keeps, OnlyReads, Reaches, ReachesBy};
 ghost use Rattle.zd_examine.specs.Examined.{ArePointers};
 ghost use Rattle.zd_examine.specs.Opened.{HoldsBothSets};
 ghost use Rattle.zd_model.specs.Super.{FitsVersion};
@@ -14,14 +14,14 @@ ghost use Rattle.zd_sets.specs.Equal.{OnlyAt};
 ghost use Rattle.zd_sets.specs.Stages.{next_head};
 ghost use Rattle.zd_repair.specs.Committed.{InBothSets};
 ghost use Rattle.zd_repair.specs.Finished.{AreLeftBlocks, ExplainsFinish, HasFinished, IsFinishing};
-ghost use Rattle.zd_repair.specs.Repairing.{ExplainsFind, HasMended, IsFindFault, IsPartOfRepair, MendLeaves};
+ghost use Rattle.zd_repair.specs.Repairing.{ExplainsFind, ExplainsRepair, HasMended, HasRepaired, IsFindFault, IsLeftOrPart, IsPartOfRepair, IsSameOrPart, KeepsPartFrom, MendLeaves, RepairLeaves, disk_after};
 
 use crate::commit::commit_blocks;
 use crate::tables::{Repaired, repair_tables};
 use std::alloc::Global;
 use zd_base::{Failed, Geometry, Layout, Memory};
 use zd_disk::ZonedDisk;
-use zd_examine::read_pointers;
+use zd_examine::{read_pointers, settle_disk};
 use zd_model::Super;
 use zd_sets::{Chosen, ReadFault, SetBlocks, SetFault, choose, make_equal, read_set};
 use zd_tables::VolumeTables;
@@ -196,5 +196,52 @@ fn find<D: ZonedDisk>(
         }),
         Err(ReadFault::Device) => Err(RepairFault::Device),
         Err(ReadFault::Memory) => Err(RepairFault::Memory),
+    }
+}
+
+/// Makes a volume of a disk whose tables may be wrong: flushes, finds the chosen set, makes both sets equal, and drops
+/// what is wrong in the tables.
+///
+/// By ascending chunk it drops from the map what is wrong in it as it then stands, without what was dropped before: a
+/// whole entry where its zone is no data zone or an earlier chunk names it, else the buffer where that is wrong, also
+/// where one entry names a zone twice. Then it clears each bit that breaks a rule; of a block that is valid in a buffer
+/// and in the zone beside it, the zone's. `Repaired` counts the entries that were dropped or lost their buffer, and the
+/// bits that were cleared. Where nothing is wrong, both sets are made equal and nothing else is written; else what is
+/// left is committed once, under the next generation. No zone is padded.
+///
+/// `NoSuperBlock` comes exactly where no set is chosen, and `Layout` exactly where one is whose layout doesn't fit or
+/// another block could be taken for a super block; the disk then had one flush and no write. `Generation` comes exactly
+/// where something is wrong and the generation is the last; both sets are equal then.
+///
+/// At any answer, and in what a stop leaves at any moment, the disk is one that `repair` doesn't refuse as
+/// `NoSuperBlock` or `Layout`, where it wasn't; its chosen map and bits are those before or those after; and no block
+/// changed but used blocks of both sets. That is so where a stop before would have left what the disk read as, and else
+/// from the end of the flush on.
+pub fn repair<D: ZonedDisk>(
+    alloc: Global,
+    mut disk: D,
+) -> Result<(Repaired, D), (RepairFault, D)>
+    ensures ok { IfOk result (λ r. HasRepaired r.0 (D.view disk) (D.view r.1)) }
+    ensures err { IfErr result (λ e. WhereTold (D.view disk).zones (ExplainsRepair e.0)) }
+    ensures leaves { IfErr result (λ e. RepairLeaves e.0 (D.view disk) (D.view e.1)) }
+
+    // What the disk reads as, and what a stop leaves, at each moment of the call.
+    ensures way { ReachesBy IsLeftOrPart (D.view disk) (D.view (disk_after result)) }
+    ensures kept { Keeps IsSameOrPart (D.view disk) (D.view (disk_after result)) }
+    ensures settled { IfErr result (λ e. e.0 ≡ RepairFault.Device →
+        (D.view disk).calls + 2 ≤ (D.view e.1).calls) →
+        KeepsPartFrom ((D.view disk).calls + 1) (D.view disk) (D.view (disk_after result)) }
+{
+    let geometry = match settle_disk(&mut disk) {
+        Ok(geometry) => geometry,
+        Err(Failed) => return Err((RepairFault::Device, disk)),
+    };
+    let found = match find(alloc, &mut disk, &geometry) {
+        Ok(found) => found,
+        Err(fault) => return Err((fault, disk)),
+    };
+    match mend(alloc, &mut disk, geometry, found) {
+        Ok(dropped) => Ok((dropped, disk)),
+        Err(fault) => Err((fault, disk)),
     }
 }
