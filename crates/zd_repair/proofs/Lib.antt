@@ -21,3 +21,5 @@ pub mod LeftRules
 pub mod RepairStages
 pub mod RepairEnds
 pub mod MendViews
+pub mod SameRepairs
+pub mod RepairViews
