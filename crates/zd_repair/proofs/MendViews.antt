@@ -20,7 +20,7 @@ use Rattle.zd_sets.proofs.EqualLaws.{only_more, only_then, same_only}
 use Rattle.zd_repair.specs.Committed.{InBothSets, PutsBothSets, commit_calls}
 use Rattle.zd_repair.specs.Finished.{AreLeftBlocks, ExplainsFinish, HasFinished, IsCommitted, IsFinishing}
 use Rattle.zd_repair.specs.Repaired.{IsNothing}
-use Rattle.zd_repair.specs.Repairing.{CannotMend, CountsRepair, HasMended, HasWrong, IsMadeSame, IsPartOfRepair, IsRepair, MendLeaves, changed_blocks}
+use Rattle.zd_repair.specs.Repairing.{CannotMend, CountsRepair, HasMended, HasWrong, IsMadeSame, IsOnlyEqual, IsPartOfRepair, IsRepair, MendLeaves, changed_blocks}
 use Rattle.zd_repair.specs.declared.repairing.RepairFault.{RepairFault}
 use Rattle.zd_repair.specs.declared.repairing.RepairFault.TheVariants.{NoSuperBlock, Layout as BadLayout, Device, Generation, Memory}
 use Rattle.zd_repair.specs.declared.tables.Repaired.{Repaired}
@@ -194,6 +194,15 @@ module _ {u m : View} (g : Shape) (c : Choice) (bytes pointers : List ℕ) (told
                       (λ a j. IsMadeEqual g c (used_blocks g c.head.layout) a j × (m.zones ≡ Some j)) (λ a j e n is. (is, n)) equal.reads;
                 }
 
+        only_equal : OnlyReads m v → IsOnlyEqual c u v
+        only_equal reads = record {
+          equal = turns_read (turns_as told (λ a j is after e. same_g g c bytes pointers a is.geometry j (found_now a is.is) e) equal) reads;
+          durable = durable_read reads durable;
+          counted = record {
+            number_is = λ low a e. (let calls = own_calls (omega (arith, low, reads.calls)) a e in omega (arith, calls, reads.calls));
+          };
+        }
+
         -- why nothing was dropped
         pub mend_leaves : (fault : RepairFault) → ExplainsFinish g c bytes pointers m v fault → MendLeaves c u v fault
         mend_leaves NoSuperBlock why = absurd why
@@ -203,13 +212,9 @@ module _ {u m : View} (g : Shape) (c : Choice) (bytes pointers : List ℕ) (told
           last = why.1;
           wrong = λ a e. (let there = turned equal a e in
               wrong_g g c bytes pointers a (read_as {v = u} told a e).geometry there.0 why.2.0 why.2.1 (found_now a e) there.2 why.2.2 why.2.3);
-          equal = turns_read (turns_as told (λ a j is after e. same_g g c bytes pointers a is.geometry j (found_now a is.is) e) equal) why.0;
-          durable = durable_read why.0 durable;
-          counted = record {
-            number_is = λ low a e. (let calls = own_calls (omega (arith, low, why.0.calls)) a e in omega (arith, calls, why.0.calls));
-          };
+          done = only_equal why.0;
         }
-        mend_leaves Memory why = tt
+        mend_leaves Memory why = only_equal why
 
     -- what is asked where the tables are repaired
     pub sets_held : Holds (HoldsBothSets g c bytes) m

@@ -1,9 +1,9 @@
 -- A disk that is flushed, whose chosen set is found, and repaired then.
-use Rattle.std.proofs.Common.{◌≡◌, ◌⊎◌, ℕ, ◌+◌, ◌-◌, ◌^◌, ◌<◌, ◌≤◌, List, Some, inl, inr, sym, ap, ◌∙◌, subst, arith}
+use Rattle.std.proofs.Common.{◌≡◌, ◌⊎◌, ℕ, ◌+◌, ◌-◌, ◌^◌, ◌<◌, ◌≤◌, List, Some, inl, inr, refl, sym, ap, ◌∙◌, subst, arith}
 use Rattle.zd_base.specs.Geometry.{IsShape, Shape}
 use Rattle.zd_base.specs.Layout.{used_blocks}
 use Rattle.zd_disk.specs.Told.{WhereTold, next_count}
-use Rattle.zd_disk.specs.View.{View, IsDurable, Keeps, Reaches, ReachesBy, Turns}
+use Rattle.zd_disk.specs.View.{View, HasFailed, IsDurable, Keeps, Reaches, ReachesBy, Turns}
 use Rattle.zd_disk.proofs.SameSteps.{Same-refl, Same-trans}
 use Rattle.zd_disk.proofs.ViewLaws.{by_as, by_kept, by_then, kept_by, read_as, turned, turns_with}
 use Rattle.zd_examine.proofs.OpenLaws.{placed_set}
@@ -14,7 +14,7 @@ use Rattle.zd_model.specs.Image.{Image, IsImage, Same}
 use Rattle.zd_model.specs.Volume.{Chosen as Set}
 use Rattle.zd_sets.specs.Choice.{IsChoice, IsPlacedChoice, chosen_of}
 use Rattle.zd_sets.specs.declared.choice.Chosen.{Chosen as Choice}
-use Rattle.zd_repair.specs.Repairing.{CannotMend, CountsRepair, ExplainsFind, ExplainsRepair, HasMended, HasOnlyEqualled, HasRepaired, IsFindFault, IsLeftOrPart, IsMadeSame, IsPartOfRepair, IsPartlyRepaired, IsRepair, IsSameOrPart, KeepsPartFrom, MendLeaves, RepairLeaves}
+use Rattle.zd_repair.specs.Repairing.{CannotMend, CountsRepair, ExplainsFind, ExplainsRepair, HasMended, HasOnlyEqualled, HasRepaired, IsFindFault, IsLeftOrPart, IsMadeSame, IsOnlyEqual, IsPartOfRepair, IsPartlyRepaired, IsRepair, IsSameOrPart, KeepsPartFrom, MendLeaves, RepairLeaves}
 use Rattle.zd_repair.specs.declared.repairing.RepairFault.{RepairFault}
 use Rattle.zd_repair.specs.declared.repairing.RepairFault.TheVariants.{NoSuperBlock, Layout as BadLayout, Device, Generation, Memory}
 use Rattle.zd_repair.specs.declared.tables.Repaired.{Repaired}
@@ -110,24 +110,27 @@ module _ {u f : View} {g : Shape} (told : f.told ≡ Some g) (shape : IsShape g)
           )
       mend_explains Memory why old e = tt
 
-      pub mend_leaves_then : (fault : RepairFault) → f.calls ≤ v.calls → MendLeaves c f v fault → RepairLeaves fault u v
-      mend_leaves_then NoSuperBlock order why = absurd why
-      mend_leaves_then BadLayout order why = absurd why
-      mend_leaves_then Device order why = (let later = settled.stays.later in omega (arith, why, later))
-      mend_leaves_then Generation order why = record {
+      equalled : f.calls ≤ v.calls → IsOnlyEqual c f v → HasOnlyEqualled u v
+      equalled order done = record {
         equal = turns_with (λ old mid b e m is same made. (
           c,
           choice_before old mid (u.shaped old e) (own_shape old mid m same) same c (own_choice old mid m same) (choice mid m),
           same_before old mid (u.shaped old e) (own_shape old mid m same) same c (own_choice old mid m same) b (own_placed old mid e m same) made,
-        )) settled.reads why.equal;
-        durable = why.durable;
+        )) settled.reads done.equal;
+        durable = done.durable;
         counted = λ low old e. (
             let there = turned settled.reads old e in
-            let calls = why.counted.number_is low there.0 there.1 in
+            let calls = done.counted.number_is low there.0 there.1 in
             let same = calls_before old there.0 (u.shaped old e) (own_shape old there.0 there.1 there.2) there.2 c (own_choice old there.0 there.1 there.2) in (
               c,
               choice_before old there.0 (u.shaped old e) (own_shape old there.0 there.1 there.2) there.2 c (own_choice old there.0 there.1 there.2) (choice there.0 there.1),
               omega (arith, next, order, low, calls, same),
             ));
       }
-      mend_leaves_then Memory order why = tt
+
+      pub mend_leaves_then : (fault : RepairFault) → f.calls ≤ v.calls → MendLeaves c f v fault → RepairLeaves fault u v
+      mend_leaves_then NoSuperBlock order why = absurd why
+      mend_leaves_then BadLayout order why = absurd why
+      mend_leaves_then Device order why = (let later = settled.stays.later in omega (arith, why, later))
+      mend_leaves_then Generation order why = equalled order why.done
+      mend_leaves_then Memory order why = inr (equalled order why)

@@ -126,13 +126,17 @@ pub record IsMadeSame (c : Chosen) (old new : Image) : Type 0 where
   pub sets : HasEqualSets old.geometry c.head new
   pub tables : tables_of new (equal_set old.geometry c.head) ≡ tables_of old (chosen_of c)
 
--- and nothing else was done since the chosen set was found, as its generation is the last
-pub record CannotMend (c : Chosen) (u v : View) : Type 0 where
-  pub last : c.head.generation ≡ 2 ^ 64 - 1
-  pub wrong : WhereTold u.zones (HasWrong (chosen_of c))
+-- and nothing else was done since the chosen set was found
+pub record IsOnlyEqual (c : Chosen) (u v : View) : Type 0 where
   pub equal : Turns (IsMadeSame c) u v
   pub durable : IsDurable v
   pub counted : MadeOf (λ old. equal_calls c (used_blocks old.geometry c.head.layout) old) u v
+
+-- as something is wrong, and its generation is the last
+pub record CannotMend (c : Chosen) (u v : View) : Type 0 where
+  pub last : c.head.generation ≡ 2 ^ 64 - 1
+  pub wrong : WhereTold u.zones (HasWrong (chosen_of c))
+  pub done : IsOnlyEqual c u v
 
 -- what a repair that failed did then
 abbrev pub MendLeaves : Chosen → View → View → RepairFault → Type 0
@@ -140,7 +144,7 @@ MendLeaves c u v NoSuperBlock = ⊥
 MendLeaves c u v Layout = ⊥
 MendLeaves c u v Device = HasFailed u v
 MendLeaves c u v Generation = CannotMend c u v
-MendLeaves c u v Memory = Unit {0}
+MendLeaves c u v Memory = IsOnlyEqual c u v
 
 -- why no set was found
 abbrev pub ExplainsFind : RepairFault → Image → Type 0
@@ -158,7 +162,7 @@ IsFindFault Device = Unit {0}
 IsFindFault Generation = ⊥
 IsFindFault Memory = Unit {0}
 
--- and nothing else was done
+-- the same of a disk that was flushed first
 pub record HasOnlyEqualled (u v : View) : Type 0 where
   pub equal : Turns (λ old new. (c : Chosen) × IsChoice c old × IsMadeSame c old new) u v
   pub durable : IsDurable v
@@ -185,4 +189,4 @@ RepairLeaves NoSuperBlock u v = IsFlushed u v
 RepairLeaves Layout u v = IsFlushed u v
 RepairLeaves Device u v = HasFailed u v
 RepairLeaves Generation u v = HasOnlyEqualled u v
-RepairLeaves Memory u v = Unit {0}
+RepairLeaves Memory u v = IsFlushed u v ⊎ HasOnlyEqualled u v
