@@ -18,7 +18,7 @@ use Rattle.zd_sets.specs.Stages.{next_head}
 use Rattle.zd_sets.specs.declared.choice.Chosen.{Chosen as Choice}
 use Rattle.zd_sets.proofs.EqualLaws.{only_more, only_then, same_only}
 use Rattle.zd_repair.specs.Committed.{InBothSets, PutsBothSets, commit_calls}
-use Rattle.zd_repair.specs.Finished.{AreLeftBlocks, ExplainsFinish, HasFinished, IsCommitted, IsFinishing}
+use Rattle.zd_repair.specs.Finished.{AreLeftBlocks, ExplainsFinish, HasFinished, HasCommittedLeft, IsFinishing}
 use Rattle.zd_repair.specs.Repaired.{IsNothing}
 use Rattle.zd_repair.specs.Repairing.{CannotMend, CountsRepair, HasMended, HasWrong, IsMadeSame, IsOnlyEqual, IsPartOfRepair, IsRepair, MendLeaves, changed_blocks}
 use Rattle.zd_repair.specs.declared.repairing.RepairFault.{RepairFault}
@@ -27,7 +27,7 @@ use Rattle.zd_repair.specs.declared.tables.Repaired.{Repaired}
 use Rattle.zd_repair.proofs.CommitViews.{first_holds, keeps_as, keeps_on, second_holds}
 use Rattle.zd_repair.proofs.LeftRules.{cases_nothing}
 use Rattle.zd_repair.proofs.RepairEnds.{commit_counted_now, made_same, repaired_nothing, repaired_something}
-use Rattle.zd_repair.proofs.RepairStages.{IsFound, equal_held, equal_stage, finish_stage, has_wrong}
+use Rattle.zd_repair.proofs.RepairStages.{IsFoundSet, equal_held, equal_stage, finish_stage, has_wrong}
 
 -- two changes at once
 turns_pair : {P Q : Image → Image → Type 0} {u v : View} → Turns P u v → Turns Q u v → Turns (λ a b. P a b × Q a b) u v
@@ -54,52 +54,52 @@ only_way g At = record {
 
 -- by a geometry that is the image's
 module _ (g : Shape) (c : Choice) (bytes pointers : List ℕ) (a : Image) (shape : a.geometry ≡ g) where
-  equal_g : (b : Image) → IsFound g c bytes pointers a → OnlyAt (InSet g c.other 0 (used_blocks g c.head.layout)) a b
+  equal_g : (b : Image) → IsFoundSet g c bytes pointers a → OnlyAt (InSet g c.other 0 (used_blocks g c.head.layout)) a b
       → ChoosesSame (chosen_of c) (used_blocks g c.head.layout) a b → IsPartOfRepair (chosen_of c) a b
-  equal_g b = subst (λ (s : Shape). IsFound s c bytes pointers a → OnlyAt (InSet s c.other 0 (used_blocks s c.head.layout)) a b
+  equal_g b = subst (λ (s : Shape). IsFoundSet s c bytes pointers a → OnlyAt (InSet s c.other 0 (used_blocks s c.head.layout)) a b
       → ChoosesSame (chosen_of c) (used_blocks s c.head.layout) a b → IsPartOfRepair (chosen_of c) a b) shape
       (λ f only same. equal_stage c bytes pointers a f b only same)
 
   module _ (j : Image) where
-    held_g : IsFound g c bytes pointers a → IsMadeEqual g c (used_blocks g c.head.layout) a j → HoldsBothSets g c bytes j
-    held_g = subst (λ (s : Shape). IsFound s c bytes pointers a → IsMadeEqual s c (used_blocks s c.head.layout) a j → HoldsBothSets s c bytes j) shape
+    held_g : IsFoundSet g c bytes pointers a → IsMadeEqual g c (used_blocks g c.head.layout) a j → HoldsBothSets g c bytes j
+    held_g = subst (λ (s : Shape). IsFoundSet s c bytes pointers a → IsMadeEqual s c (used_blocks s c.head.layout) a j → HoldsBothSets s c bytes j) shape
         (λ f e. equal_held c bytes pointers a f j e)
 
-    finish_g : (b : Image) → IsFound g c bytes pointers a → IsMadeEqual g c (used_blocks g c.head.layout) a j → IsImage j
+    finish_g : (b : Image) → IsFoundSet g c bytes pointers a → IsMadeEqual g c (used_blocks g c.head.layout) a j → IsImage j
         → IsFinishing g c bytes pointers j b → IsPartOfRepair (chosen_of c) a b
-    finish_g b = subst (λ (s : Shape). IsFound s c bytes pointers a → IsMadeEqual s c (used_blocks s c.head.layout) a j → IsImage j
+    finish_g b = subst (λ (s : Shape). IsFoundSet s c bytes pointers a → IsMadeEqual s c (used_blocks s c.head.layout) a j → IsImage j
         → IsFinishing s c bytes pointers j b → IsPartOfRepair (chosen_of c) a b) shape
         (λ f e i p. finish_stage c bytes pointers a f j e b i p)
 
-    same_g : IsFound g c bytes pointers a → IsMadeEqual g c (used_blocks g c.head.layout) a j → IsMadeSame c a j
-    same_g = subst (λ (s : Shape). IsFound s c bytes pointers a → IsMadeEqual s c (used_blocks s c.head.layout) a j → IsMadeSame c a j) shape
+    same_g : IsFoundSet g c bytes pointers a → IsMadeEqual g c (used_blocks g c.head.layout) a j → IsMadeSame c a j
+    same_g = subst (λ (s : Shape). IsFoundSet s c bytes pointers a → IsMadeEqual s c (used_blocks s c.head.layout) a j → IsMadeSame c a j) shape
         (λ f e. made_same c bytes pointers a f j e)
 
     module _ (dropped : Repaired) (left : List ℕ) where
-      wrong_g : IsFound g c bytes pointers a → IsMadeEqual g c (used_blocks g c.head.layout) a j
+      wrong_g : IsFoundSet g c bytes pointers a → IsMadeEqual g c (used_blocks g c.head.layout) a j
           → AreLeftBlocks g c.head.layout bytes pointers dropped left → (IsNothing dropped → ⊥) → HasWrong (chosen_of c) a
-      wrong_g = subst (λ (s : Shape). IsFound s c bytes pointers a → IsMadeEqual s c (used_blocks s c.head.layout) a j
+      wrong_g = subst (λ (s : Shape). IsFoundSet s c bytes pointers a → IsMadeEqual s c (used_blocks s c.head.layout) a j
           → AreLeftBlocks s c.head.layout bytes pointers dropped left → (IsNothing dropped → ⊥) → HasWrong (chosen_of c) a) shape
           (λ f e are some. has_wrong c bytes pointers a f j e dropped left are some)
 
-      nothing_g : IsFound g c bytes pointers a → IsMadeEqual g c (used_blocks g c.head.layout) a j
+      nothing_g : IsFoundSet g c bytes pointers a → IsMadeEqual g c (used_blocks g c.head.layout) a j
           → AreLeftBlocks g c.head.layout bytes pointers dropped left → IsNothing dropped → IsRepair (chosen_of c) dropped a j
-      nothing_g = subst (λ (s : Shape). IsFound s c bytes pointers a → IsMadeEqual s c (used_blocks s c.head.layout) a j
+      nothing_g = subst (λ (s : Shape). IsFoundSet s c bytes pointers a → IsMadeEqual s c (used_blocks s c.head.layout) a j
           → AreLeftBlocks s c.head.layout bytes pointers dropped left → IsNothing dropped → IsRepair (chosen_of c) dropped a j) shape
           (λ f e are none. repaired_nothing c bytes pointers a f j e dropped left are none)
 
-      something_g : (b : Image) → IsFound g c bytes pointers a → IsMadeEqual g c (used_blocks g c.head.layout) a j
+      something_g : (b : Image) → IsFoundSet g c bytes pointers a → IsMadeEqual g c (used_blocks g c.head.layout) a j
           → AreLeftBlocks g c.head.layout bytes pointers dropped left → (IsNothing dropped → ⊥)
           → PutsBothSets g c.head.layout (next_head c.head) left j b → c.head.generation + 1 < 2 ^ 64 → IsRepair (chosen_of c) dropped a b
-      something_g b = subst (λ (s : Shape). IsFound s c bytes pointers a → IsMadeEqual s c (used_blocks s c.head.layout) a j
+      something_g b = subst (λ (s : Shape). IsFoundSet s c bytes pointers a → IsMadeEqual s c (used_blocks s c.head.layout) a j
           → AreLeftBlocks s c.head.layout bytes pointers dropped left → (IsNothing dropped → ⊥)
           → PutsBothSets s c.head.layout (next_head c.head) left j b → c.head.generation + 1 < 2 ^ 64 → IsRepair (chosen_of c) dropped a b) shape
           (λ f e are some put rises. repaired_something c bytes pointers a f j e dropped left are some b put rises)
 
-      counted_g : (b : Image) → IsFound g c bytes pointers a → IsMadeEqual g c (used_blocks g c.head.layout) a j
+      counted_g : (b : Image) → IsFoundSet g c bytes pointers a → IsMadeEqual g c (used_blocks g c.head.layout) a j
           → AreLeftBlocks g c.head.layout bytes pointers dropped left → (IsNothing dropped → ⊥)
           → PutsBothSets g c.head.layout (next_head c.head) left j b → commit_calls g c.head.layout left j ≡ 2 * changed_blocks c a b + 6
-      counted_g b = subst (λ (s : Shape). IsFound s c bytes pointers a → IsMadeEqual s c (used_blocks s c.head.layout) a j
+      counted_g b = subst (λ (s : Shape). IsFoundSet s c bytes pointers a → IsMadeEqual s c (used_blocks s c.head.layout) a j
           → AreLeftBlocks s c.head.layout bytes pointers dropped left → (IsNothing dropped → ⊥)
           → PutsBothSets s c.head.layout (next_head c.head) left j b → commit_calls s c.head.layout left j ≡ 2 * changed_blocks c a b + 6) shape
           (λ f e are some put. commit_counted_now c bytes pointers a f j e dropped left are some b put)
@@ -109,7 +109,7 @@ module _ {u m : View} (g : Shape) (c : Choice) (bytes pointers : List ℕ) (told
     (value : WhereTold u.zones (λ image. IsChoice c image × AreBlocks image c.zone (used_blocks g c.head.layout) bytes × ArePointers image pointers))
     (way : Reaches (OnlyAt (InSet g c.other 0 (used_blocks g c.head.layout))) u m)
     (same : Keeps (ChoosesSame (chosen_of c) (used_blocks g c.head.layout)) u m) where
-  found_now : (a : Image) → u.zones ≡ Some a → IsFound g c bytes pointers a
+  found_now : (a : Image) → u.zones ≡ Some a → IsFoundSet g c bytes pointers a
   found_now a e = (let is = value a e in record {
     some = some;
     placed = placed;
@@ -172,7 +172,7 @@ module _ {u m : View} (g : Shape) (c : Choice) (bytes pointers : List ℕ) (told
               }) equal) reads).reads;
             }
 
-            by_something : (IsNothing dropped → ⊥) → IsCommitted g c ended.left m v → HasMended c dropped u v
+            by_something : (IsNothing dropped → ⊥) → HasCommittedLeft g c ended.left m v → HasMended c dropped u v
             by_something some done = record {
               repaired = turns_then told (λ a j b is middle after e put.
                   something_g g c bytes pointers a is.geometry j dropped ended.left b (found_now a is.is) e ended.blocks some put done.rises) equal done.sets;

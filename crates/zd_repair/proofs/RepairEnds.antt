@@ -24,7 +24,7 @@ use Rattle.zd_repair.specs.Repaired.{CountsDropped, IsLeftOf, IsNothing}
 use Rattle.zd_repair.specs.Repairing.{AreLeft, CountsRepair, IsHeadAfter, IsMadeSame, IsRepair, changed_blocks, equal_set}
 use Rattle.zd_repair.specs.declared.tables.Repaired.{Repaired}
 use Rattle.zd_repair.proofs.LeftRules.{left_bits, left_by, left_map, nothing_counted, nothing_left}
-use Rattle.zd_repair.proofs.RepairStages.{IsFound, are_left, both_only, equal_held, equal_sets, equal_tables, equal_well, found_tables, other_only}
+use Rattle.zd_repair.proofs.RepairStages.{IsFoundSet, are_left, both_only, equal_held, equal_sets, equal_tables, equal_well, found_tables, other_only}
 
 -- the rules look at the pointers of sequential zones alone
 bits_by : (g : Shape) (p q : ℕ → ℕ) (t : Tables) → ((z : ℕ) → g.conv ≤ z → q z ≡ p z) → BitsFollowRules g p t → BitsFollowRules g q t
@@ -34,7 +34,7 @@ bits_by g p q t same rules = record {
   one_place = rules.one_place;
 }
 
-module _ (c : Choice) (bytes pointers : List ℕ) (old : Image) (found : IsFound old.geometry c bytes pointers old) (m : Image)
+module _ (c : Choice) (bytes pointers : List ℕ) (old : Image) (found : IsFoundSet old.geometry c bytes pointers old) (m : Image)
     (equal : IsMadeEqual old.geometry c (used_blocks old.geometry c.head.layout) old m) where
   abbrev g : Shape
   g = old.geometry

@@ -34,7 +34,7 @@ use Rattle.zd_repair.proofs.LeftRules.{left_bits, left_by, left_map, nothing_cou
 use Rattle.zd_repair.proofs.TakenVolumes.{tables_are as tables_chosen, well_formed_by}
 
 -- the chosen set of an image was found, with its used blocks, and the pointers of the zones
-pub record IsFound (g : Shape) (c : Choice) (bytes pointers : List ℕ) (image : Image) : Type 0 where
+pub record IsFoundSet (g : Shape) (c : Choice) (bytes pointers : List ℕ) (image : Image) : Type 0 where
   pub some : 0 < g.zone_blocks
   pub placed : IsPlacedChoice g c
   pub size : length bytes ≡ 4096 * used_blocks g c.head.layout
@@ -42,7 +42,7 @@ pub record IsFound (g : Shape) (c : Choice) (bytes pointers : List ℕ) (image :
   pub blocks : AreBlocks image c.zone (used_blocks g c.head.layout) bytes
   pub reported : ArePointers image pointers
 
-module _ (c : Choice) (bytes pointers : List ℕ) (old : Image) (found : IsFound old.geometry c bytes pointers old) where
+module _ (c : Choice) (bytes pointers : List ℕ) (old : Image) (found : IsFoundSet old.geometry c bytes pointers old) where
   abbrev g : Shape
   g = old.geometry
 

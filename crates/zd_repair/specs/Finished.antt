@@ -29,7 +29,7 @@ IsFinishing g c bytes pointers old new = Same old new
     × (IsNothing dropped → ⊥) × HasPartOfCommit g c.head.layout (next_head c.head) left old new)
 
 -- what is left was committed
-pub record IsCommitted (g : Shape) (c : Choice) (left : List ℕ) (u v : View) : Type 0 where
+pub record HasCommittedLeft (g : Shape) (c : Choice) (left : List ℕ) (u v : View) : Type 0 where
   pub rises : c.head.generation + 1 < 2 ^ 64
   pub sets : Turns (PutsBothSets g c.head.layout (next_head c.head) left) u v
   pub durable : IsDurable v
@@ -41,7 +41,7 @@ pub record HasFinished (g : Shape) (c : Choice) (bytes pointers : List ℕ) (dro
   pub left : List ℕ
   pub blocks : AreLeftBlocks g c.head.layout bytes pointers dropped left
   pub nothing : IsNothing dropped → OnlyReads u v
-  pub something : (IsNothing dropped → ⊥) → IsCommitted g c left u v
+  pub something : (IsNothing dropped → ⊥) → HasCommittedLeft g c left u v
 
 -- why nothing was dropped, and what was done
 abbrev pub ExplainsFinish : Shape → Choice → List ℕ → List ℕ → View → View → RepairFault → Type 0

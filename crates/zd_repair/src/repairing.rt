@@ -93,7 +93,7 @@ fn left_blocks(
 
 /// Drops what is wrong in the tables of a set that was found, where both sets of the disk have its blocks, and commits
 /// what is left where something was wrong.
-fn finish<D: ZonedDisk>(
+fn finish_repair<D: ZonedDisk>(
     alloc: Global,
     disk: &mut D,
     geometry: Geometry,
@@ -131,7 +131,7 @@ fn finish<D: ZonedDisk>(
 
 /// Makes both sets equal, drops what is wrong in the tables of the set that was found, and commits what is left where
 /// something was wrong.
-fn mend<D: ZonedDisk>(
+fn mend_set<D: ZonedDisk>(
     alloc: Global,
     disk: &mut D,
     geometry: Geometry,
@@ -153,7 +153,7 @@ fn mend<D: ZonedDisk>(
     let _zone_blocks = geometry.zone_blocks();
     match make_equal(disk, &geometry, &found.chosen, &found.blocks) {
         Err(Failed) => Err(RepairFault::Device),
-        Ok(()) => finish(alloc, disk, geometry, found),
+        Ok(()) => finish_repair(alloc, disk, geometry, found),
     }
 }
 
@@ -240,7 +240,7 @@ pub fn repair<D: ZonedDisk>(
         Ok(found) => found,
         Err(fault) => return Err((fault, disk)),
     };
-    match mend(alloc, &mut disk, geometry, found) {
+    match mend_set(alloc, &mut disk, geometry, found) {
         Ok(dropped) => Ok((dropped, disk)),
         Err(fault) => Err((fault, disk)),
     }

@@ -18,70 +18,70 @@ returns-in-Err-find-clause-settled g c fine =
     flushed_keeps (reaches_read c.settle_disk.ensures.way c.find.ensures.reads) (c.find.ensures.reads.calls ∙ c.in-Ok.ensures.counted)
     (durable_read c.find.ensures.reads c.in-Ok.ensures.durable)
 
-pub mend-requires-clause-value : goal.mend-requires-clause-value
-mend-requires-clause-value g c image z = c.in-Ok-find.ensures.value image (sym c.find.ensures.reads.zones ∙ z)
+pub mend_set-requires-clause-value : goal.mend_set-requires-clause-value
+mend_set-requires-clause-value g c image z = c.in-Ok-find.ensures.value image (sym c.find.ensures.reads.zones ∙ z)
 
-pub returns-in-Ok-mend-clause-ok : goal.returns-in-Ok-mend-clause-ok
-returns-in-Ok-mend-clause-ok g c =
+pub returns-in-Ok-mend_set-clause-ok : goal.returns-in-Ok-mend_set-clause-ok
+returns-in-Ok-mend_set-clause-ok g c =
     has_repaired (c.find.ensures.reads.stays.told _ c.in-Ok.ensures.told) c.in-Ok.ensures.shape
     (reaches_read c.settle_disk.ensures.way c.find.ensures.reads) c.in-Ok-find.found.chosen c.in-Ok-find.ensures.placed
     (λ i e. (c.in-Ok-find.ensures.value i (sym c.find.ensures.reads.zones ∙ e)).0)
-    _ (c.find.ensures.reads.calls ∙ c.in-Ok.ensures.counted) c.in-Ok-mend.dropped c.mend.ensures.way.order c.in-Ok-mend.ensures.ok
+    _ (c.find.ensures.reads.calls ∙ c.in-Ok.ensures.counted) c.in-Ok-mend_set.dropped c.mend_set.ensures.way.order c.in-Ok-mend_set.ensures.ok
 
-pub returns-in-Ok-mend-clause-way : goal.returns-in-Ok-mend-clause-way
-returns-in-Ok-mend-clause-way g c =
+pub returns-in-Ok-mend_set-clause-way : goal.returns-in-Ok-mend_set-clause-way
+returns-in-Ok-mend_set-clause-way g c =
     repair_way (c.find.ensures.reads.stays.told _ c.in-Ok.ensures.told) c.in-Ok.ensures.shape
     (reaches_read c.settle_disk.ensures.way c.find.ensures.reads) c.in-Ok-find.found.chosen c.in-Ok-find.ensures.placed
     (λ i e. (c.in-Ok-find.ensures.value i (sym c.find.ensures.reads.zones ∙ e)).0)
-    (durable_read c.find.ensures.reads c.in-Ok.ensures.durable) c.mend.ensures.kept c.mend.ensures.way
+    (durable_read c.find.ensures.reads c.in-Ok.ensures.durable) c.mend_set.ensures.kept c.mend_set.ensures.way
 
-pub returns-in-Ok-mend-clause-kept : goal.returns-in-Ok-mend-clause-kept
-returns-in-Ok-mend-clause-kept g c =
+pub returns-in-Ok-mend_set-clause-kept : goal.returns-in-Ok-mend_set-clause-kept
+returns-in-Ok-mend_set-clause-kept g c =
     part_keeps (repair_way (c.find.ensures.reads.stays.told _ c.in-Ok.ensures.told) c.in-Ok.ensures.shape
     (reaches_read c.settle_disk.ensures.way c.find.ensures.reads) c.in-Ok-find.found.chosen c.in-Ok-find.ensures.placed
     (λ i e. (c.in-Ok-find.ensures.value i (sym c.find.ensures.reads.zones ∙ e)).0)
-    (durable_read c.find.ensures.reads c.in-Ok.ensures.durable) c.mend.ensures.kept c.mend.ensures.way)
+    (durable_read c.find.ensures.reads c.in-Ok.ensures.durable) c.mend_set.ensures.kept c.mend_set.ensures.way)
 
-pub returns-in-Ok-mend-clause-settled : goal.returns-in-Ok-mend-clause-settled
-returns-in-Ok-mend-clause-settled g c fine =
+pub returns-in-Ok-mend_set-clause-settled : goal.returns-in-Ok-mend_set-clause-settled
+returns-in-Ok-mend_set-clause-settled g c fine =
     repair_keeps (c.find.ensures.reads.stays.told _ c.in-Ok.ensures.told) c.in-Ok.ensures.shape
     (reaches_read c.settle_disk.ensures.way c.find.ensures.reads) c.in-Ok-find.found.chosen c.in-Ok-find.ensures.placed
     (λ i e. (c.in-Ok-find.ensures.value i (sym c.find.ensures.reads.zones ∙ e)).0)
-    (durable_read c.find.ensures.reads c.in-Ok.ensures.durable) c.mend.ensures.kept
+    (durable_read c.find.ensures.reads c.in-Ok.ensures.durable) c.mend_set.ensures.kept
     (c.find.ensures.reads.calls ∙ c.in-Ok.ensures.counted)
 
-pub returns-in-Err-mend-clause-err : goal.returns-in-Err-mend-clause-err
-returns-in-Err-mend-clause-err g c =
+pub returns-in-Err-mend_set-clause-err : goal.returns-in-Err-mend_set-clause-err
+returns-in-Err-mend_set-clause-err g c =
     mend_explains (c.find.ensures.reads.stays.told _ c.in-Ok.ensures.told) c.in-Ok.ensures.shape
     (reaches_read c.settle_disk.ensures.way c.find.ensures.reads) c.in-Ok-find.found.chosen c.in-Ok-find.ensures.placed
     (λ i e. (c.in-Ok-find.ensures.value i (sym c.find.ensures.reads.zones ∙ e)).0)
-    _ (c.find.ensures.reads.calls ∙ c.in-Ok.ensures.counted) c.in-Err-mend.fault c.in-Err-mend.ensures.err
+    _ (c.find.ensures.reads.calls ∙ c.in-Ok.ensures.counted) c.in-Err-mend_set.fault c.in-Err-mend_set.ensures.err
 
-pub returns-in-Err-mend-clause-leaves : goal.returns-in-Err-mend-clause-leaves
-returns-in-Err-mend-clause-leaves g c =
+pub returns-in-Err-mend_set-clause-leaves : goal.returns-in-Err-mend_set-clause-leaves
+returns-in-Err-mend_set-clause-leaves g c =
     mend_leaves_then (c.find.ensures.reads.stays.told _ c.in-Ok.ensures.told) c.in-Ok.ensures.shape
     (reaches_read c.settle_disk.ensures.way c.find.ensures.reads) c.in-Ok-find.found.chosen c.in-Ok-find.ensures.placed
     (λ i e. (c.in-Ok-find.ensures.value i (sym c.find.ensures.reads.zones ∙ e)).0)
-    _ (c.find.ensures.reads.calls ∙ c.in-Ok.ensures.counted) c.in-Err-mend.fault c.mend.ensures.way.order c.in-Err-mend.ensures.err
+    _ (c.find.ensures.reads.calls ∙ c.in-Ok.ensures.counted) c.in-Err-mend_set.fault c.mend_set.ensures.way.order c.in-Err-mend_set.ensures.err
 
-pub returns-in-Err-mend-clause-way : goal.returns-in-Err-mend-clause-way
-returns-in-Err-mend-clause-way g c =
+pub returns-in-Err-mend_set-clause-way : goal.returns-in-Err-mend_set-clause-way
+returns-in-Err-mend_set-clause-way g c =
     repair_way (c.find.ensures.reads.stays.told _ c.in-Ok.ensures.told) c.in-Ok.ensures.shape
     (reaches_read c.settle_disk.ensures.way c.find.ensures.reads) c.in-Ok-find.found.chosen c.in-Ok-find.ensures.placed
     (λ i e. (c.in-Ok-find.ensures.value i (sym c.find.ensures.reads.zones ∙ e)).0)
-    (durable_read c.find.ensures.reads c.in-Ok.ensures.durable) c.mend.ensures.kept c.mend.ensures.way
+    (durable_read c.find.ensures.reads c.in-Ok.ensures.durable) c.mend_set.ensures.kept c.mend_set.ensures.way
 
-pub returns-in-Err-mend-clause-kept : goal.returns-in-Err-mend-clause-kept
-returns-in-Err-mend-clause-kept g c =
+pub returns-in-Err-mend_set-clause-kept : goal.returns-in-Err-mend_set-clause-kept
+returns-in-Err-mend_set-clause-kept g c =
     part_keeps (repair_way (c.find.ensures.reads.stays.told _ c.in-Ok.ensures.told) c.in-Ok.ensures.shape
     (reaches_read c.settle_disk.ensures.way c.find.ensures.reads) c.in-Ok-find.found.chosen c.in-Ok-find.ensures.placed
     (λ i e. (c.in-Ok-find.ensures.value i (sym c.find.ensures.reads.zones ∙ e)).0)
-    (durable_read c.find.ensures.reads c.in-Ok.ensures.durable) c.mend.ensures.kept c.mend.ensures.way)
+    (durable_read c.find.ensures.reads c.in-Ok.ensures.durable) c.mend_set.ensures.kept c.mend_set.ensures.way)
 
-pub returns-in-Err-mend-clause-settled : goal.returns-in-Err-mend-clause-settled
-returns-in-Err-mend-clause-settled g c fine =
+pub returns-in-Err-mend_set-clause-settled : goal.returns-in-Err-mend_set-clause-settled
+returns-in-Err-mend_set-clause-settled g c fine =
     repair_keeps (c.find.ensures.reads.stays.told _ c.in-Ok.ensures.told) c.in-Ok.ensures.shape
     (reaches_read c.settle_disk.ensures.way c.find.ensures.reads) c.in-Ok-find.found.chosen c.in-Ok-find.ensures.placed
     (λ i e. (c.in-Ok-find.ensures.value i (sym c.find.ensures.reads.zones ∙ e)).0)
-    (durable_read c.find.ensures.reads c.in-Ok.ensures.durable) c.mend.ensures.kept
+    (durable_read c.find.ensures.reads c.in-Ok.ensures.durable) c.mend_set.ensures.kept
     (c.find.ensures.reads.calls ∙ c.in-Ok.ensures.counted)

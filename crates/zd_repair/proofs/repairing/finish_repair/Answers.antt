@@ -1,6 +1,6 @@
 use Rattle.std.proofs.Common.{◌≡◌, ◌+◌, ℕ, List, true≢false, inl, sym, ap, ◌∙◌, subst}
 use Rattle.zd_repair.proofs.FinishLaws.{finished_nothing, keeps_finishing, keeps_none, left_of_pointers, supers_good}
-use Rattle.zd_repair.proofs.repairing.finish.Goals as goal
+use Rattle.zd_repair.proofs.repairing.finish_repair.Goals as goal
 
 pub returns-in_default-clause-kept : goal.returns-in_default-clause-kept
 returns-in_default-clause-kept g c = keeps_none (λ a b same. inl same)
