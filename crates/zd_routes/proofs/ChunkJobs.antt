@@ -47,6 +47,7 @@ module _ (s : Sets) (are : AreSets s) (chunk : ℕ) (entry : MapEntry) (bytes : 
         ∙ job.emptied y x kind was low;
     inside = job.inside;
     few = job.few;
+    unread = job.unread;
     run = λ y x source low high.
         let inside = job.inside in
         let was : source_of w.job.kind (entry_of (new_tables s) w.job.chunk) ≡ Some y =

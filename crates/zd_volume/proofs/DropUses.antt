@@ -133,6 +133,7 @@ module _ (s : Sets) (are : AreSets s) (chunk from end : ℕ) (bytes : List ℕ)
         ∙ job.emptied y x kind was low;
     inside = job.inside;
     few = job.few;
+    unread = job.unread;
     run = λ y x source low high.
         let was : source_of w.job.kind (entry_of (new_tables s) w.job.chunk) ≡ Some y =
         sym (ap (source_of w.job.kind) same) ∙ source in

@@ -94,6 +94,7 @@ job_ended s generation pointers (Some w) is = record {
   emptied = is.emptied;
   inside = is.inside;
   few = is.few;
+  unread = is.unread;
   run = is.run;
   pointer = is.pointer;
 }

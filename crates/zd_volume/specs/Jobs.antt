@@ -72,8 +72,8 @@ HasTarget g old new Append e target = target ≡ e.zone
 HasTarget g old new Merge e target = target ≡ e.buffer
 
 -- The job under way: its chunk and its target, and how far it is. The zone of an Empty has no valid
--- block; the run that is read is valid in the source; a sequential target is written up to where the
--- job is.
+-- block, and nothing is read for it. The run that is read is valid in the source; a sequential target
+-- is written up to where the job is.
 pub record IsJob (s : Sets) (pointers : List ℕ) (w : Work) : Type 0 where
   pub chunk : w.job.chunk < s.head.layout.chunks
   pub entry : FitsEntry s.geometry w.job.kind (entry_of (new_tables s) w.job.chunk)
@@ -84,6 +84,7 @@ pub record IsJob (s : Sets) (pointers : List ℕ) (w : Work) : Type 0 where
       is_valid (new_tables s) y x ≡ false
   pub inside : w.copied + w.read ≤ s.geometry.zone_blocks
   pub few : w.read ≤ 32
+  pub unread : w.job.kind ≡ Empty → w.read ≡ 0
   pub run : (y x : ℕ) → source_of w.job.kind (entry_of (new_tables s) w.job.chunk) ≡ Some y →
       w.copied ≤ x → x < w.copied + w.read → IsTrue (is_valid (new_tables s) y x)
   pub pointer : (z : ℕ) → w.target ≡ Some z → s.geometry.conv ≤ z →
