@@ -11,7 +11,6 @@ pub mod KeptReads
 pub mod CopyBytes
 pub mod CopyPlaces
 pub mod FixedCopies
-pub mod CopyCalls
 pub mod KeptCopies
 pub mod EndZones
 pub mod RemapTables

@@ -42,27 +42,31 @@ length-pointers_with g pointers zone end = by (nat_lt zone g.conv)
     by true = refl
     by false = length-set pointers zone end
 
--- THEY STAND IN THEIR ZONES still, where the write ends in its zone
+-- THEY STAND IN THEIR ZONES still, where one is set inside its zone
+pub in_zones_set : (g : Shape) (pointers : List ℕ) (zone end : ℕ) → length pointers ≡ zone_count g
+    → end ≤ g.zone_blocks → StandInZones g pointers → StandInZones g (set pointers zone end)
+in_zones_set g pointers zone end count inside was = record {
+  at = λ z conv low. elim (cases_eq z zone) [
+    | inl here ↦
+        let there : slice_index (set pointers zone end) z ≡ end =
+        ap (λ (y : ℕ). slice_index (set pointers zone end) y) here
+        ∙ get_or-set_same pointers zone end 0 (omega (arith, count, low, here)) in
+        omega (arith, there, inside)
+    | inr off ↦
+        let same : slice_index (set pointers zone end) z ≡ slice_index pointers z =
+        get_or-set_other pointers zone z end 0 off in
+        let under = was.at z conv low in
+        omega (arith, same, under)
+  ];
+}
+
 pub in_zones_with : (g : Shape) (pointers : List ℕ) (zone end : ℕ) → length pointers ≡ zone_count g
     → end ≤ g.zone_blocks → StandInZones g pointers → StandInZones g (pointers_with g pointers zone end)
 in_zones_with g pointers zone end count inside was = by (nat_lt zone g.conv)
   where
     by : (low : Bool) → StandInZones g (cond low pointers (set pointers zone end))
     by true = was
-    by false = record {
-      at = λ z conv low. elim (cases_eq z zone) [
-        | inl here ↦
-            let there : slice_index (set pointers zone end) z ≡ end =
-            ap (λ (y : ℕ). slice_index (set pointers zone end) y) here
-            ∙ get_or-set_same pointers zone end 0 (omega (arith, count, low, here)) in
-            omega (arith, there, inside)
-        | inr off ↦
-            let same : slice_index (set pointers zone end) z ≡ slice_index pointers z =
-            get_or-set_other pointers zone z end 0 off in
-            let under = was.at z conv low in
-            omega (arith, same, under)
-      ];
-    }
+    by false = in_zones_set g pointers zone end count inside was
 
 module _ (from to : PlainVolume) (p : Piece) (place : Place) (zone : ℕ) (fixed : IsFixed from)
     (is : WritesBlocks (sets_of from) p.what) (did : WritesPiece from to p place zone) where
