@@ -2,9 +2,10 @@
 
 ghost use Rattle.std.specs.Prelude.{Some};
 
-use crate::fresh::fresh;
-use crate::run::{run, sink, source};
+use crate::run::run;
 use std::test::Fail;
+use test_volumes::texts::{sink, source};
+use test_volumes::volumes::fresh;
 use zd_base::Status;
 use zd_disk::Failed;
 use zd_ports::{MemSink, Sink};

@@ -1,14 +1,15 @@
 //! Volumes in files whose zones have two bitmap blocks.
 
-use crate::fresh::{NONE, bitmap_of, format, map_block, patterned, put};
 use crate::run::expect;
 use std::alloc::{AllocError, Global};
 use std::fs;
 use std::rt::Files;
 use std::test::Fail;
+use test_volumes::volumes::{NONE, VOLUME, bitmap_of, format, map_block, patterned, put};
+use uuid::Uuid;
 use zd_base::Layout;
 use zd_disk::FileDisk;
-use zd_open::examine;
+use zd_examine::examine;
 
 /// The layout on 4 conventional and 2 sequential zones of 65,536 blocks, with two bitmap blocks a zone.
 const WIDE: Layout = Layout {
@@ -78,5 +79,18 @@ fn both_bitmap_blocks_of_a_buffered_chunk_count(rt: HostRuntime) -> Result<(), F
     put(&rt, &mut disk, 0, 7, &bitmap_of(1))?;
     expect(&rt, disk, "", "end 3 volume bits 2 32768;", 3)?;
     rt.remove_file("buffered.img")?;
+    Ok(())
+}
+
+#[test]
+fn a_formatted_volume_of_such_zones_reads_as_zeros(rt: HostRuntime) -> Result<(), Fail> {
+    fs::write(&rt, "formatted.img", HEADER.as_slice())?;
+    let mut disk = FileDisk::at(&rt, "formatted.img");
+    let volume = Uuid::from_bytes(VOLUME);
+    let layout = zd_format::format(rt.alloc(), &mut disk, 2, [0; 32], volume)?;
+    assert_eq!(rt; layout, WIDE);
+    let output = "0 1 0 r 131071 1 data z8 @0;end 0 ok;";
+    expect(&rt, disk, "r 0 131071 1;", output, 0)?;
+    rt.remove_file("formatted.img")?;
     Ok(())
 }

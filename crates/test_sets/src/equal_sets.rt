@@ -1,12 +1,12 @@
 //! Sets of metadata read, written, and made equal.
 
-use crate::fresh::{fresh, put};
 use std::alloc::Global;
 use std::process::Abort;
 use std::test::Fail;
+use test_volumes::volumes::{fresh, put};
 use zd_disk::ZonedDisk;
+use zd_examine::examine;
 use zd_model::Super;
-use zd_open::examine;
 use zd_sets::{Chosen, choose, make_equal, read_set, write_block, write_super};
 
 /// Makes the sets of a disk equal, and answers what was chosen.

@@ -25,7 +25,7 @@ pub const SMALL: Layout = Layout {
 };
 
 /// The identifier 00000000-0000-4000-8000-000000000001.
-const VOLUME: [u8; 16] = [0, 0, 0, 0, 0, 0, 0x40, 0, 0x80, 0, 0, 0, 0, 0, 0, 1];
+pub const VOLUME: [u8; 16] = [0, 0, 0, 0, 0, 0, 0x40, 0, 0x80, 0, 0, 0, 0, 0, 0, 1];
 
 /// The identifier of the volume's one device, 705d13ab-1a26-52ae-a1fa-3108df8326ab.
 const DEVICE: [u8; 16] = [
