@@ -38,7 +38,7 @@ fn a_sink_that_fails_in_the_middle_has_a_front_of_the_output(rt: HostRuntime) ->
         let (ended, _) = run(
             rt.alloc(),
             &["img", "s"],
-            fresh(&rt)?,
+            fresh(rt.alloc())?,
             &mut source,
             &mut sink,
         )?;

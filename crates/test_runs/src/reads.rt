@@ -38,7 +38,7 @@ fn run_long(rt: &(impl Abort + AllocGlobal), more: &str) -> Result<(Status, MemS
     let (ended, _) = run(
         rt.alloc(),
         &["img", "s"],
-        fresh(rt)?,
+        fresh(rt.alloc())?,
         &mut source,
         &mut sink,
     )?;
