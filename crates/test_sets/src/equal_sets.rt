@@ -1,12 +1,12 @@
 //! Sets of metadata read, written, and made equal.
 
-use crate::fresh::{fresh, put};
 use std::alloc::Global;
 use std::process::Abort;
 use std::test::Fail;
+use test_volumes::volumes::{fresh, put};
 use zd_disk::ZonedDisk;
+use zd_examine::examine;
 use zd_model::Super;
-use zd_open::examine;
 use zd_sets::{Chosen, choose, make_equal, read_set, write_block, write_super};
 
 /// Makes the sets of a disk equal, and answers what was chosen.
@@ -48,15 +48,15 @@ fn raise<D: ZonedDisk>(disk: &mut D, generation: u64) -> Result<(), Fail> {
 /// the super block and a flush. The second time nothing differs, and three calls are left.
 #[test]
 fn the_other_set_is_made_equal(rt: HostRuntime) -> Result<(), Fail> {
-    let mut disk = fresh(&rt)?;
-    put(&rt, &mut disk, 1, 0, &[0xAB; 4096])?;
-    put(&rt, &mut disk, 1, 13, &[1; 4096])?;
+    let mut disk = fresh(rt.alloc())?;
+    put(&mut disk, 1, 0, &[0xAB; 4096])?;
+    put(&mut disk, 1, 13, &[1; 4096])?;
     let calls = disk.calls();
     assert!(rt; !make_sets_equal(rt.alloc(), &mut disk)?.other_good);
     assert_eq!(rt; disk.calls().checked_sub(calls), Some(6));
     assert!(rt; make_sets_equal(rt.alloc(), &mut disk)?.other_good);
     assert_eq!(rt; disk.calls().checked_sub(calls), Some(9));
-    put(&rt, &mut disk, 0, 0, &[0; 4096])?;
+    put(&mut disk, 0, 0, &[0; 4096])?;
     let image = examine(rt.alloc(), &mut disk)?;
     assert_eq!(rt; image.chosen.set, 1);
     assert!(rt; !image.chosen.other_good);
@@ -65,7 +65,7 @@ fn the_other_set_is_made_equal(rt: HostRuntime) -> Result<(), Fail> {
 
 #[test]
 fn super_blocks_are_written(rt: HostRuntime) -> Result<(), Fail> {
-    let mut disk = fresh(&rt)?;
+    let mut disk = fresh(rt.alloc())?;
     spoil_super(&rt, &mut disk)?;
     let image = examine(rt.alloc(), &mut disk)?;
     assert_eq!(rt; image.chosen.set, 0);

@@ -2,7 +2,7 @@
 
 ghost use Rattle.std.specs.Prelude.{◌+◌, ◌<◌, ◌≤◌, length};
 
-use std::process::Abort;
+use std::alloc::Global;
 use std::test::Fail;
 use uuid::Uuid;
 use zd_base::{Geometry, Kind, Layout, SECTOR, ZoneNo};
@@ -25,7 +25,7 @@ pub const SMALL: Layout = Layout {
 };
 
 /// The identifier 00000000-0000-4000-8000-000000000001.
-const VOLUME: [u8; 16] = [0, 0, 0, 0, 0, 0, 0x40, 0, 0x80, 0, 0, 0, 0, 0, 0, 1];
+pub const VOLUME: [u8; 16] = [0, 0, 0, 0, 0, 0, 0x40, 0, 0x80, 0, 0, 0, 0, 0, 0, 1];
 
 /// The identifier of the volume's one device, 705d13ab-1a26-52ae-a1fa-3108df8326ab.
 const DEVICE: [u8; 16] = [
@@ -84,19 +84,20 @@ pub fn set_block(layout: &Layout, own: u64, i: u32) -> [u8; 4096] {
     }
 }
 
-/// Writes a block, in a sequential zone at its pointer.
+/// Writes a block, in a sequential zone at its pointer. `Failed` also where it is no block of the disk, or doesn't
+/// stand there.
 pub fn put<D: ZonedDisk>(
-    rt: &impl Abort,
     disk: &mut D,
     zone: u32,
     block: u32,
     bytes: &[u8; 4096],
 ) -> Result<(), Failed> {
     let geometry = disk.geometry()?;
-    assert!(rt; zone < geometry.zones());
-    assert!(rt; block < geometry.zone_blocks());
-    if geometry.kind(ZoneNo(zone)) == Kind::Sequential {
-        assert!(rt; disk.report(ZoneNo(zone))? == 8 * block);
+    if zone >= geometry.zones() || block >= geometry.zone_blocks() {
+        return Err(Failed);
+    }
+    if geometry.kind(ZoneNo(zone)) == Kind::Sequential && disk.report(ZoneNo(zone))? != 8 * block {
+        return Err(Failed);
     }
     disk.write(ZoneNo(zone), 8 * block, bytes)
 }
@@ -107,37 +108,33 @@ pub fn flush<D: ZonedDisk>(disk: &mut D) -> Result<(), Failed> {
     disk.flush()
 }
 
-/// Writes the set of metadata that begins in zone `first`.
-fn put_set<D: ZonedDisk>(
-    rt: &impl Abort,
-    disk: &mut D,
-    layout: &Layout,
-    first: u32,
-) -> Result<(), Failed> {
+/// Writes the set of metadata that begins in zone `first`. `Failed` also where that is no zone of a disk.
+fn put_set<D: ZonedDisk>(disk: &mut D, layout: &Layout, first: u32) -> Result<(), Failed> {
     let zone_blocks = disk.geometry()?.zone_blocks();
-    assert!(rt; first < 65_536);
+    if first >= 65_536 {
+        return Err(Failed);
+    }
     let own = u64::from(first) * u64::from(zone_blocks);
     for i in 0..layout.meta_blocks {
         let block = set_block(layout, own, i);
-        put(rt, disk, first + i / zone_blocks, i % zone_blocks, &block)?;
+        put(disk, first + i / zone_blocks, i % zone_blocks, &block)?;
     }
     Ok(())
 }
 
 /// Writes both sets of a volume that nobody wrote.
-pub fn format<D: ZonedDisk>(rt: &impl Abort, disk: &mut D, layout: &Layout) -> Result<(), Failed> {
+pub fn format<D: ZonedDisk>(disk: &mut D, layout: &Layout) -> Result<(), Failed> {
     let geometry = disk.geometry()?;
-    put_set(rt, disk, layout, 0)?;
-    put_set(rt, disk, layout, layout.set_zones(&geometry))?;
+    put_set(disk, layout, 0)?;
+    put_set(disk, layout, layout.set_zones(&geometry))?;
     flush(disk)
 }
 
 /// The volume of the rows, which nobody wrote.
-pub fn fresh(rt: &(impl Abort + AllocGlobal)) -> Result<MemDisk, Fail> {
-    let mut disk = MemDisk::blank(rt.alloc(), Geometry::new(16, 6, 6)?)?;
+pub fn fresh(alloc: Global) -> Result<MemDisk, Fail> {
+    let mut disk = MemDisk::blank(alloc, Geometry::new(16, 6, 6)?)?;
     let volume = Uuid::from_bytes(VOLUME);
-    let layout = zd_format::format(rt.alloc(), &mut disk, 2, [0; 32], volume)?;
-    assert_eq!(rt; layout, SMALL);
+    zd_format::format(alloc, &mut disk, 2, [0; 32], volume)?;
     Ok(disk)
 }
 
