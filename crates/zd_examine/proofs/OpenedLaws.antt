@@ -140,6 +140,7 @@ module _ (g : Shape) (c : Choice) (bytes reported : List ℕ) (old middle new : 
         record {
           set = there.set;
           well_formed = there.well_formed;
+          same_head = there.same_head;
           same = there.same ∙ content_of_same old middle (chosen_of c) first shape same was_well_formed;
         },
       )

@@ -82,7 +82,7 @@ module _ {named : List Bool} (j i : Image) (image : IsImage j) (after : IsImage 
   pub volume_padded : (old : Image) → IsShape j.geometry → IsSameVolume old j → IsSameVolume old i
   volume_padded old shape v =
       let here = padded_volume v.2.set shape v.2.well_formed in
-      (v.0, v.1, record { set = v.2.set; well_formed = here.0; same = here.1 ∙ v.2.same })
+      (v.0, v.1, record { set = v.2.set; well_formed = here.0; same_head = v.2.same_head; same = here.1 ∙ v.2.same })
 
 -- what was examined, and had both sets made equal
 module _ {g : Shape} {c : Choice} {bytes reported : List ℕ} (middle new : Image) (some : 0 < g.zone_blocks)

@@ -12,7 +12,7 @@ mod roles;
 
 pub use bitmap::first_bad_bit;
 pub use examining::{Image, OpenFault, examine};
-pub use map::first_bad_chunk;
-pub use opening::open;
+pub use map::{first_bad_chunk, give_roles, is_new, is_right_buffer};
+pub use opening::{open, settle_disk};
 pub use padding::pad;
 pub use roles::Role;

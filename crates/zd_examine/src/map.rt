@@ -17,7 +17,7 @@ use zd_sets::SetBlocks;
 use zd_tables::entry;
 
 /// Whether a zone, where there is one, is a data zone that no earlier chunk names.
-fn is_new(geometry: &Geometry, layout: &Layout, roles: &[Role], zone: Option<ZoneNo>) -> bool
+pub fn is_new(geometry: &Geometry, layout: &Layout, roles: &[Role], zone: Option<ZoneNo>) -> bool
     requires fits { Fits geometry.now layout.now }
     ensures { (earlier : List ℕ) → AreNamed geometry.now earlier roles.now →
         result ≡ option_map_or (is_new_zone geometry.now layout.now earlier) zone true }
@@ -33,7 +33,7 @@ fn is_new(geometry: &Geometry, layout: &Layout, roles: &[Role], zone: Option<Zon
 }
 
 /// Whether a buffer is conventional and stands beside a sequential zone, where there is one.
-fn is_right_buffer(geometry: &Geometry, entry: &MapEntry) -> bool
+pub fn is_right_buffer(geometry: &Geometry, entry: &MapEntry) -> bool
     ensures { result ≡ option_map_or (is_right_buffer geometry.now entry.now.zone) entry.now.buffer true }
 {
     let conv = geometry.conv();
@@ -56,7 +56,7 @@ fn is_right(geometry: &Geometry, layout: &Layout, roles: &[Role], entry: &MapEnt
 }
 
 /// Gives the zones of an entry their roles.
-fn enter(roles: &mut [Role], entry: &MapEntry)
+pub fn give_roles(roles: &mut [Role], entry: &MapEntry)
     requires zone { IfSome entry.now.zone (λ z. z < length roles.old) }
     requires buffer { IfSome entry.now.buffer (λ b. (b < length roles.old) × IsSome entry.now.zone) }
     ensures { roles.new ≡ roles_with entry.now.zone entry.now.buffer roles.old }
@@ -90,7 +90,7 @@ pub fn first_bad_chunk(
         if !is_right(geometry, layout, roles, &entry) {
             return Some(ChunkNo(chunk));
         }
-        enter(roles, &entry);
+        give_roles(roles, &entry);
     }
     None
 }

@@ -16,7 +16,7 @@ use zd_disk::ZonedDisk;
 use zd_sets::make_equal;
 
 /// Asks for the geometry and flushes, so that a stop leaves what the disk reads as.
-fn settle<D: ZonedDisk>(disk: &mut D) -> Result<Geometry, Failed>
+pub fn settle_disk<D: ZonedDisk>(disk: &mut D) -> Result<Geometry, Failed>
     ensures told { IfOk result (λ g. (D.view disk.new).told ≡ Some g) }
     ensures shape { IfOk result IsShape }
     ensures way { Reaches Same (D.view disk.old) (D.view disk.new) }
@@ -66,7 +66,7 @@ pub fn open<D: ZonedDisk>(alloc: Global, disk: &mut D) -> Result<Image, OpenFaul
 
     ensures cause { result ≡ Err OpenFault.Device → HasFailed (D.view disk.old) (D.view disk.new) }
 {
-    let Ok(_geometry) = settle(disk) else {
+    let Ok(_geometry) = settle_disk(disk) else {
         return Err(OpenFault::Device);
     };
     let mut image = match examine(alloc, disk) {

@@ -13,7 +13,7 @@ const DEVICE: &str = "device 0";
 
 /// The identifier of a volume's one device, of version 5.
 #[tactic(auto, unfolding(crate::specs::Fresh::device_of))]
-fn device_of(volume: &Uuid) -> Uuid
+pub fn device_of(volume: &Uuid) -> Uuid
     ensures { result ≡ device_of volume.now }
 {
     Uuid::new_v5(volume, DEVICE.as_bytes())

@@ -16,4 +16,5 @@ mod runs;
 mod sets;
 
 pub use formatting::{FormatFault, Formatted, format, format_disk};
+pub use head::device_of;
 pub use zd_model::Layout;

@@ -7,12 +7,12 @@ use Rattle.zd_disk.specs.Told.{WhereTold}
 use Rattle.zd_disk.specs.View.{View, Holds, IsDurable, Keeps, Reaches, Turns}
 use Rattle.zd_disk.proofs.ViewLaws.{holds_durable, keeps_first, keeps_then, reaches_as, reaches_then, read_as, turned_back, turns_both, turns_then}
 use Rattle.zd_sets.specs.Blocks.{AreBlocks}
-use Rattle.zd_sets.specs.Choice.{IsChoice, IsPlacedChoice, chosen_of}
+use Rattle.zd_sets.specs.Choice.{IsChoice, IsPlacedChoice}
 use Rattle.zd_sets.specs.Equal.{HasSetBlocks, HasSuper, InSet, IsCleared, IsMadeEqual, IsReady, OnlyAt}
-use Rattle.zd_sets.specs.Kept.{HasPartOfBlocks, HasPartOfSuper, IsPartCleared, KeepsVolume}
+use Rattle.zd_sets.specs.Kept.{HasPartOfBlocks, HasPartOfSuper, IsPartCleared}
 use Rattle.zd_sets.specs.declared.choice.Chosen.{Chosen as Choice}
 use Rattle.zd_sets.proofs.EqualLaws.{made_equal, only_more, only_then, ready, still_ready, there_inside}
-use Rattle.zd_sets.proofs.WayLaws.{blocks_way, clear_way, super_way, way_cleared, way_copied, way_keeps, way_put}
+use Rattle.zd_sets.proofs.WayLaws.{HoldsOnTheWay, blocks_way, clear_way, super_way, way_cleared, way_copied, way_put}
 
 module _ (g : Shape) (c : Choice) (bytes : List ℕ) (shape : IsShape g) (placed : IsPlacedChoice g c) where
   some : 0 < g.zone_blocks
@@ -32,23 +32,6 @@ module _ (g : Shape) (c : Choice) (bytes : List ℕ) (shape : IsShape g) (placed
   super_only d i h = only_more (InSet g c.other 0 1) (InSet g c.other 0 (used_blocks g c.head.layout)) d i
       (λ z x p. (p.0, p.1, omega (arith, p.2), p.3, p.4)) h.only
 
-  -- and keeps the volume
-  module _ (old : Image) (told : old.geometry ≡ g) (image : IsImage old) (choice : IsChoice c old) where
-    pub clear_keeps : (i : Image) → IsImage i → IsPartCleared g c.other c.other_good old i → KeepsVolume (chosen_of c) old i
-    clear_keeps i is clear = way_keeps g c old i told image is shape placed choice (way_cleared g c bytes placed some old i told clear)
-
-    pub blocks_keep : (b i : Image) → IsImage i → AreBlocks old c.zone (used_blocks g c.head.layout) bytes
-        → IsPartCleared g c.other c.other_good old b → HasPartOfBlocks g c.other 1 (used_blocks g c.head.layout) bytes b i
-        → KeepsVolume (chosen_of c) old i
-    blocks_keep b i is blocks clear part =
-        way_keeps g c old i told image is shape placed choice (way_copied g c bytes placed some old b i told blocks clear part)
-
-    pub super_keeps : (b d i : Image) → IsImage i → AreBlocks old c.zone (used_blocks g c.head.layout) bytes
-        → IsPartCleared g c.other c.other_good old b → HasSetBlocks g c.other 1 (used_blocks g c.head.layout) bytes b d
-        → HasPartOfSuper g c d i → KeepsVolume (chosen_of c) old i
-    super_keeps b d i is blocks clear copied put =
-        way_keeps g c old i told image is shape placed choice (way_put g c bytes placed some old b d i told blocks clear copied put)
-
 -- the three steps, one after another, on a disk that reads as the chosen set says
 module _ {g : Shape} {c : Choice} {bytes : List ℕ} (shape : IsShape g) (placed : IsPlacedChoice g c) {s t : View} (told : s.told ≡ Some g)
     (chosen : WhereTold s.zones (IsChoice c)) (blocks : WhereTold s.zones (λ i. AreBlocks i c.zone (used_blocks g c.head.layout) bytes))
@@ -56,9 +39,11 @@ module _ {g : Shape} {c : Choice} {bytes : List ℕ} (shape : IsShape g) (placed
   pub cleared_only : Reaches (OnlyAt (InSet g c.other 0 (used_blocks g c.head.layout))) s t
   cleared_only = reaches_as told (λ a b here image after h. clear_only g c bytes shape placed a b h) clear
 
-  pub cleared_kept : Keeps (KeepsVolume (chosen_of c)) s t
-  cleared_kept = keeps_first (clear_way g c.other c.other_good placed.other (some g c bytes shape placed)) told
-      (λ a b is after h. clear_keeps g c bytes shape placed a is.geometry is.image (chosen a is.is) b after h) clear
+  -- what holds all the way is kept
+  pub cleared_kept : (P : Image → Image → Type 0) → HoldsOnTheWay g c P → Keeps P s t
+  cleared_kept P holds = keeps_first (clear_way g c.other c.other_good placed.other (some g c bytes shape placed)) told
+      (λ a b is after h. holds a b is.geometry is.image after (chosen a is.is)
+      (way_cleared g c bytes placed (some g c bytes shape placed) a b is.geometry h)) clear
 
   module _ {u : View} (cleared : Turns (IsCleared g c.other c.other_good) s t) (durable : IsDurable s → IsDurable t)
       (copy : Reaches (HasPartOfBlocks g c.other 1 (used_blocks g c.head.layout) bytes) t u) where
@@ -66,12 +51,13 @@ module _ {g : Shape} {c : Choice} {bytes : List ℕ} (shape : IsShape g) (placed
     copied_only = reaches_then (λ a b h. h)
         (λ a b d h k. only_then (InSet g c.other 0 (used_blocks g c.head.layout)) a b d h (blocks_only g c bytes shape placed b d k)) cleared_only copy
 
-    pub copied_kept : Keeps (KeepsVolume (chosen_of c)) s u
-    copied_kept = keeps_then
+    pub copied_kept : (P : Image → Image → Type 0) → HoldsOnTheWay g c P → Keeps P s u
+    copied_kept P holds = keeps_then
         (blocks_way g c.other 1 (used_blocks g c.head.layout) bytes (some g c bytes shape placed)
         (there_inside g c bytes placed (some g c bytes shape placed)))
-        (clear.stays.told g told) told cleared_kept clear.reads clear.order durable
-        (λ a b d is after h k. blocks_keep g c bytes shape placed a is.geometry is.image (chosen a is.is) b d after (blocks a is.is) h k) copy
+        (clear.stays.told g told) told (cleared_kept P holds) clear.reads clear.order durable
+        (λ a b d is after h k. holds a d is.geometry is.image after (chosen a is.is)
+        (way_copied g c bytes placed (some g c bytes shape placed) a b d is.geometry (blocks a is.is) h k)) copy
 
     module _ (copied : Turns (HasSetBlocks g c.other 1 (used_blocks g c.head.layout) bytes) t u) (last : IsDurable u) where
       pub copied_ready : Holds (IsReady c (used_blocks g c.head.layout)) u
@@ -87,11 +73,12 @@ module _ {g : Shape} {c : Choice} {bytes : List ℕ} (shape : IsShape g) (placed
         put_only = reaches_then (λ a b h. h)
             (λ a b d h k. only_then (InSet g c.other 0 (used_blocks g c.head.layout)) a b d h (super_only g c bytes shape placed b d k)) copied_only put
 
-        pub put_kept : Keeps (KeepsVolume (chosen_of c)) s v
-        put_kept = keeps_then (super_way g c placed.other (some g c bytes shape placed))
-            (copy.stays.told g (clear.stays.told g told)) told copied_kept (turns_both clear.reads copied)
+        pub put_kept : (P : Image → Image → Type 0) → HoldsOnTheWay g c P → Keeps P s v
+        put_kept P holds = keeps_then (super_way g c placed.other (some g c bytes shape placed))
+            (copy.stays.told g (clear.stays.told g told)) told (copied_kept P holds) (turns_both clear.reads copied)
             (let one = clear.order in let two = copy.order in omega arith) (λ _. last)
-            (λ a b d is after h k. super_keeps g c bytes shape placed a is.geometry is.image (chosen a is.is) h.0 b d after (blocks a is.is) h.1 h.2 k) put
+            (λ a b d is after h k. holds a d is.geometry is.image after (chosen a is.is)
+            (way_put g c bytes placed (some g c bytes shape placed) a h.0 b d is.geometry (blocks a is.is) h.1 h.2 k)) put
 
         pub put_equal : Turns (HasSuper g c.other c.head) u v → Turns (IsMadeEqual g c (used_blocks g c.head.layout)) s v
         put_equal done = turns_then told (λ a b d is middle after h k.

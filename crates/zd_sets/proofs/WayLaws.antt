@@ -12,11 +12,11 @@ use Rattle.zd_model.proofs.SuperSpelling.{spells}
 use Rattle.zd_sets.specs.Blocks.{AreBlocks, blocks_of}
 use Rattle.zd_sets.specs.Choice.{IsChoice, IsPlacedChoice, chosen_of}
 use Rattle.zd_sets.specs.Equal.{HasSetBlocks, HasSuper, InSet, IsCleared, IsReady, OnlyAt, head_at}
-use Rattle.zd_sets.specs.Kept.{HasMagicOf, HasPartOfBlocks, HasPartOfSuper, IsPartCleared, KeepsVolume}
+use Rattle.zd_sets.specs.Kept.{HasMagicOf, HasPartOfBlocks, HasPartOfSuper, IsPartCleared, ChoosesSame, KeepsVolume}
 use Rattle.zd_sets.proofs.OnTheWay.{IsOnTheWay}
 use Rattle.zd_sets.specs.declared.choice.Chosen.{Chosen as Choice}
 use Rattle.zd_sets.proofs.EqualLaws.{at_front, first_block, only_more, only_then, same_good, same_only, same_place, set_still, there_inside}
-use Rattle.zd_sets.proofs.KeptLaws.{keeps_volume}
+use Rattle.zd_sets.proofs.KeptLaws.{chooses_same, keeps_volume}
 use Rattle.zd_sets.proofs.MixLaws.{mixed_mark, mixed_over_good, mixed_over_zeros, mixed_zeros, zeros_bad}
 use Rattle.zd_sets.proofs.StopLaws.{mixed_only}
 use Rattle.zd_sets.specs.Writes.{WrotePart}
@@ -278,9 +278,21 @@ module _ (g : Shape) (choice : Choice) (bytes : List ℕ) (placed : IsPlacedChoi
         marks = λ k above below. inr (ap has_magic (its k above below));
       }
 
--- all the way a volume is kept
-pub way_keeps : (g : Shape) (c : Choice) (old new : Image) → old.geometry ≡ g → IsImage old → IsImage new → IsShape g
-    → IsPlacedChoice g c → IsChoice c old → IsOnTheWay g c (used_blocks g c.head.layout) old new → KeepsVolume (chosen_of c) old new
-way_keeps g c old new same first second shape placed choice way =
+-- what holds all the way
+abbrev pub HoldsOnTheWay : Shape → Choice → (Image → Image → Type 0) → Type 0
+HoldsOnTheWay g c P = (old new : Image) → old.geometry ≡ g → IsImage old → IsImage new → IsChoice c old
+    → IsOnTheWay g c (used_blocks g c.head.layout) old new → P old new
+
+-- a volume is kept
+pub way_keeps : (g : Shape) (c : Choice) → IsShape g → IsPlacedChoice g c → HoldsOnTheWay g c (KeepsVolume (chosen_of c))
+way_keeps g c shape placed old new same first second choice way =
     keeps_volume c old new first second (subst IsShape (sym same) shape) (subst (λ (h : Shape). IsPlacedChoice h c) (sym same) placed) choice
     (subst (λ (h : Shape). IsOnTheWay h c (used_blocks h c.head.layout) old new) (sym same) way)
+
+-- and so is the choice, whatever the tables are
+pub way_chooses : (g : Shape) (c : Choice) → IsShape g → IsPlacedChoice g c
+    → HoldsOnTheWay g c (ChoosesSame (chosen_of c) (used_blocks g c.head.layout))
+way_chooses g c shape placed old new same first second choice way =
+    subst (λ (h : Shape). ChoosesSame (chosen_of c) (used_blocks h c.head.layout) old new) same
+    (chooses_same c old new (subst IsShape (sym same) shape) (subst (λ (h : Shape). IsPlacedChoice h c) (sym same) placed) choice
+    (subst (λ (h : Shape). IsOnTheWay h c (used_blocks h c.head.layout) old new) (sym same) way))

@@ -31,6 +31,10 @@ pub record HasSetBlocks (g : Shape) (first from end : ℕ) (bytes : List ℕ) (o
 abbrev pub head_at : Shape → ℕ → Super → Super
 head_at g zone head = with_own (zone * g.zone_blocks) head
 
+-- two heads differ in their own numbers alone
+abbrev pub IsSameHead : Super → Super → Type 0
+IsSameHead s t = with_own 0 s ≡ with_own 0 t
+
 -- the super block of a zone is good, with the fields of this head, and no other block changed
 pub record HasSuper (g : Shape) (zone : ℕ) (head : Super) (old new : Image) : Type 0 where
   pub only : OnlyAt (InSet g zone 0 1) old new

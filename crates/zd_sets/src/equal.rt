@@ -10,7 +10,7 @@ ghost use Rattle.zd_model.specs.Super.{FitsVersion, HasBlock};
 ghost use Rattle.zd_sets.specs.Blocks.{AreBlocks};
 ghost use Rattle.zd_sets.specs.Calls.{clear_calls, differing_from, equal_calls};
 ghost use Rattle.zd_sets.specs.Choice.{IsChoice, IsPlacedChoice, chosen_of};
-ghost use Rattle.zd_sets.specs.Kept.{HasPartOfBlocks, HasPartOfSuper, IsPartCleared, KeepsVolume};
+ghost use Rattle.zd_sets.specs.Kept.{HasPartOfBlocks, HasPartOfSuper, ChoosesSame, IsPartCleared, KeepsVolume};
 ghost use Rattle.zd_sets.specs.Equal.{HasSetBlocks, HasSuper, InSet, IsCleared, IsMadeEqual, IsReady, OnlyAt, head_at};
 
 use crate::read::read_run;
@@ -93,7 +93,7 @@ fn copy_run<D: ZonedDisk>(
 ///
 /// At any answer, and in what a stop leaves, each begins with the magic bytes only where it did before
 /// or where its own one does.
-fn copy_blocks<D: ZonedDisk>(
+pub fn copy_blocks<D: ZonedDisk>(
     disk: &mut D,
     geometry: &Geometry,
     first: ZoneNo,
@@ -199,9 +199,9 @@ fn put_super<D: ZonedDisk>(disk: &mut D, geometry: &Geometry, chosen: &Chosen) -
 /// two more where the other super block is bad. Each call that reads takes up to 32 blocks of one zone.
 ///
 /// After Ok a stop leaves what the disk reads as. Before, and at any answer, a stop leaves the disk
-/// changed in used blocks of the other set alone. At any answer a volume is one still, with the same
-/// content; and so is what a stop leaves at any moment, where a stop before would have left what the disk
-/// read as.
+/// changed in used blocks of the other set alone. At any answer the set that is chosen has the same head and
+/// blocks, and a volume is one still, with the same content; and so is what a stop leaves at any moment, where a
+/// stop before would have left what the disk read as.
 pub fn make_equal<D: ZonedDisk>(
     disk: &mut D,
     geometry: &Geometry,
@@ -219,6 +219,8 @@ pub fn make_equal<D: ZonedDisk>(
     ensures way { Reaches (OnlyAt (InSet geometry.now chosen.now.other 0
         (used_blocks geometry.now chosen.now.head.layout))) (D.view disk.old) (D.view disk.new) }
     ensures kept { Keeps (KeepsVolume (chosen_of chosen.now)) (D.view disk.old) (D.view disk.new) }
+    ensures kept_set { Keeps (ChoosesSame (chosen_of chosen.now)
+        (used_blocks geometry.now chosen.now.head.layout)) (D.view disk.old) (D.view disk.new) }
     ensures counted { OnOk result (MadeOf (equal_calls chosen.now
         (used_blocks geometry.now chosen.now.head.layout)) (D.view disk.old) (D.view disk.new)) }
     ensures read_calls { OnOk result (MadeReads

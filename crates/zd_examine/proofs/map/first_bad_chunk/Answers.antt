@@ -22,16 +22,16 @@ returns-then-not-is_right-clause-value c =
     ap (is_right_entry g l earlier) (sym c.entry-entry.ensures) ∙ sym (c.is_right.ensures earlier c.loop-chunk.invariant.roles.named) ∙ c.if-not-is_right.true in
     sym (c.loop-chunk.invariant.rest ∙ wrong_here g l entry earlier k l.chunks c.loop-chunk-test.true wrong)
 
-pub enter-requires-clause-zone : goal.enter-requires-clause-zone
-enter-requires-clause-zone c =
+pub give_roles-requires-clause-zone : goal.give_roles-requires-clause-zone
+give_roles-requires-clause-zone c =
     let entry : ℕ → MapEntry = entry_in_blocks c.args.blocks.now in
     let earlier : List ℕ = flat_map zones_of (map entry (range_with_len 0 c.loop-chunk.chunk)) in
     let named = c.loop-chunk.invariant.roles.named in
     let right = sym (c.is_right.ensures earlier named) ∙ c.if-not-is_right.false in
     IfSome-each _ _ (λ z is. (let low = in_disk c.args.geometry.now c.args.layout.now earlier c.entry-entry.result z right (inl is) in let count = named.count in omega arith))
 
-pub enter-requires-clause-buffer : goal.enter-requires-clause-buffer
-enter-requires-clause-buffer c =
+pub give_roles-requires-clause-buffer : goal.give_roles-requires-clause-buffer
+give_roles-requires-clause-buffer c =
     let entry : ℕ → MapEntry = entry_in_blocks c.args.blocks.now in
     let earlier : List ℕ = flat_map zones_of (map entry (range_with_len 0 c.loop-chunk.chunk)) in
     let named = c.loop-chunk.invariant.roles.named in
@@ -51,7 +51,7 @@ loop-chunk-preserved c =
     let right : is_right_entry g l earlier (entry k) ≡ true =
     ap (is_right_entry g l earlier) (sym c.entry-entry.ensures) ∙ sym (c.is_right.ensures earlier c.loop-chunk.invariant.roles.named) ∙ c.if-not-is_right.false in
     record {
-      roles = subst (AreRoles g entry (k + 1)) (sym (c.enter.ensures ∙ ap (λ (e : MapEntry). roles_with e.zone e.buffer c.loop-chunk.roles) c.entry-entry.ensures)) (roles_more g l entry k c.loop-chunk.roles c.loop-chunk.invariant.roles right);
+      roles = subst (AreRoles g entry (k + 1)) (sym (c.give_roles.ensures ∙ ap (λ (e : MapEntry). roles_with e.zone e.buffer c.loop-chunk.roles) c.entry-entry.ensures)) (roles_more g l entry k c.loop-chunk.roles c.loop-chunk.invariant.roles right);
       rest = c.loop-chunk.invariant.rest ∙ right_here g l entry earlier k l.chunks c.loop-chunk-test.true right
           ∙ ap (λ (zs : List ℕ). bad_chunk g l zs (k + 1) (map entry (range_with_len (k + 1) (l.chunks - (k + 1))))) (sym (named_more entry k));
     }

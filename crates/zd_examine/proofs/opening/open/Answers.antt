@@ -27,31 +27,31 @@ make_equal-requires-clause-blocks g c image z =
 pub returns-in-Err-clause-err : goal.returns-in-Err-clause-err
 returns-in-Err-clause-err g c image z =
     let view = g.D.ZonedDisk.view in
-    let settled = turned c.settle.ensures.way.reads image z in
-    let is = read_as {v = view c.settle.new.disk} c.in-Ok.ensures.told settled.0 settled.1 in
+    let settled = turned c.settle_disk.ensures.way.reads image z in
+    let is = read_as {v = view c.settle_disk.new.disk} c.in-Ok.ensures.told settled.0 settled.1 in
     explains_same image settled.0 ((view c.args.disk.now).shaped image z)
     (subst IsShape (sym is.geometry ∙ settled.2.geometry) c.in-Ok.ensures.shape)
     settled.2 c.in-Err.fault (c.in-Err.ensures.err settled.0 settled.1)
 
 pub returns-in_default-clause-way : goal.returns-in_default-clause-way
 returns-in_default-clause-way g c =
-    settled_way c.settle.ensures.way
+    settled_way c.settle_disk.ensures.way
 
 pub returns-in_default-clause-kept : goal.returns-in_default-clause-kept
 returns-in_default-clause-kept g c =
-    way_keeps (settled_way c.settle.ensures.way)
+    way_keeps (settled_way c.settle_disk.ensures.way)
 
 pub returns-in-Err-clause-way : goal.returns-in-Err-clause-way
 returns-in-Err-clause-way g c =
-    settled_way (reaches_read c.settle.ensures.way c.examine.ensures.reads)
+    settled_way (reaches_read c.settle_disk.ensures.way c.examine.ensures.reads)
 
 pub returns-in-Err-clause-kept : goal.returns-in-Err-clause-kept
 returns-in-Err-clause-kept g c =
-    way_keeps (settled_way (reaches_read c.settle.ensures.way c.examine.ensures.reads))
+    way_keeps (settled_way (reaches_read c.settle_disk.ensures.way c.examine.ensures.reads))
 
 pub returns-in-Err-clause-settled : goal.returns-in-Err-clause-settled
 returns-in-Err-clause-settled g c fine =
-    settled_keeps (reaches_read c.settle.ensures.way c.examine.ensures.reads)
+    settled_keeps (reaches_read c.settle_disk.ensures.way c.examine.ensures.reads)
     (c.examine.ensures.reads.calls ∙ c.in-Ok.ensures.counted)
     (durable_read c.examine.ensures.reads c.in-Ok.ensures.durable)
 
@@ -59,21 +59,21 @@ returns-in-Err-clause-settled g c fine =
 pub returns-in_default-make_equal-clause-way : goal.returns-in_default-make_equal-clause-way
 returns-in_default-make_equal-clause-way g c =
     made_way (c.examine.ensures.reads.stays.told _ c.in-Ok.ensures.told) c.in-Ok.ensures.shape
-    (reaches_read c.settle.ensures.way c.examine.ensures.reads)
+    (reaches_read c.settle_disk.ensures.way c.examine.ensures.reads)
     (λ i e. c.in-Ok-examine.ensures.ok i (sym c.examine.ensures.reads.zones ∙ e))
     (durable_read c.examine.ensures.reads c.in-Ok.ensures.durable) c.make_equal.ensures.kept c.make_equal.ensures.way
 
 pub returns-in_default-make_equal-clause-kept : goal.returns-in_default-make_equal-clause-kept
 returns-in_default-make_equal-clause-kept g c =
     way_keeps (made_way (c.examine.ensures.reads.stays.told _ c.in-Ok.ensures.told) c.in-Ok.ensures.shape
-    (reaches_read c.settle.ensures.way c.examine.ensures.reads)
+    (reaches_read c.settle_disk.ensures.way c.examine.ensures.reads)
     (λ i e. c.in-Ok-examine.ensures.ok i (sym c.examine.ensures.reads.zones ∙ e))
     (durable_read c.examine.ensures.reads c.in-Ok.ensures.durable) c.make_equal.ensures.kept c.make_equal.ensures.way)
 
 pub returns-in_default-make_equal-clause-settled : goal.returns-in_default-make_equal-clause-settled
 returns-in_default-make_equal-clause-settled g c two =
     made_keeps (c.examine.ensures.reads.stays.told _ c.in-Ok.ensures.told) c.in-Ok.ensures.shape
-    (reaches_read c.settle.ensures.way c.examine.ensures.reads)
+    (reaches_read c.settle_disk.ensures.way c.examine.ensures.reads)
     (λ i e. c.in-Ok-examine.ensures.ok i (sym c.examine.ensures.reads.zones ∙ e))
     (durable_read c.examine.ensures.reads c.in-Ok.ensures.durable) c.make_equal.ensures.kept
     (c.examine.ensures.reads.calls ∙ c.in-Ok.ensures.counted)
@@ -93,22 +93,22 @@ pad-requires-clause-pointers g c =
 pub returns-in-Ok-pad-clause-way : goal.returns-in-Ok-pad-clause-way
 returns-in-Ok-pad-clause-way g c =
     pads_way (has_made (c.examine.ensures.reads.stays.told _ c.in-Ok.ensures.told) c.in-Ok.ensures.shape
-    (reaches_read c.settle.ensures.way c.examine.ensures.reads)
+    (reaches_read c.settle_disk.ensures.way c.examine.ensures.reads)
     (λ i e. c.in-Ok-examine.ensures.ok i (sym c.examine.ensures.reads.zones ∙ e))
     c.in-Ok-make_equal.ensures.ok c.make_equal.ensures.kept) c.pad.ensures.way
     (made_way (c.examine.ensures.reads.stays.told _ c.in-Ok.ensures.told) c.in-Ok.ensures.shape
-    (reaches_read c.settle.ensures.way c.examine.ensures.reads)
+    (reaches_read c.settle_disk.ensures.way c.examine.ensures.reads)
     (λ i e. c.in-Ok-examine.ensures.ok i (sym c.examine.ensures.reads.zones ∙ e))
     (durable_read c.examine.ensures.reads c.in-Ok.ensures.durable) c.make_equal.ensures.kept c.make_equal.ensures.way)
 
 pub returns-in-Ok-pad-clause-kept : goal.returns-in-Ok-pad-clause-kept
 returns-in-Ok-pad-clause-kept g c =
     way_keeps (pads_way (has_made (c.examine.ensures.reads.stays.told _ c.in-Ok.ensures.told) c.in-Ok.ensures.shape
-    (reaches_read c.settle.ensures.way c.examine.ensures.reads)
+    (reaches_read c.settle_disk.ensures.way c.examine.ensures.reads)
     (λ i e. c.in-Ok-examine.ensures.ok i (sym c.examine.ensures.reads.zones ∙ e))
     c.in-Ok-make_equal.ensures.ok c.make_equal.ensures.kept) c.pad.ensures.way
     (made_way (c.examine.ensures.reads.stays.told _ c.in-Ok.ensures.told) c.in-Ok.ensures.shape
-    (reaches_read c.settle.ensures.way c.examine.ensures.reads)
+    (reaches_read c.settle_disk.ensures.way c.examine.ensures.reads)
     (λ i e. c.in-Ok-examine.ensures.ok i (sym c.examine.ensures.reads.zones ∙ e))
     (durable_read c.examine.ensures.reads c.in-Ok.ensures.durable) c.make_equal.ensures.kept
     c.make_equal.ensures.way))
@@ -116,11 +116,11 @@ returns-in-Ok-pad-clause-kept g c =
 pub returns-in-Ok-pad-clause-settled : goal.returns-in-Ok-pad-clause-settled
 returns-in-Ok-pad-clause-settled g c two =
     pads_keep (has_made (c.examine.ensures.reads.stays.told _ c.in-Ok.ensures.told) c.in-Ok.ensures.shape
-    (reaches_read c.settle.ensures.way c.examine.ensures.reads)
+    (reaches_read c.settle_disk.ensures.way c.examine.ensures.reads)
     (λ i e. c.in-Ok-examine.ensures.ok i (sym c.examine.ensures.reads.zones ∙ e))
     c.in-Ok-make_equal.ensures.ok c.make_equal.ensures.kept) c.pad.ensures.way
     (made_keeps (c.examine.ensures.reads.stays.told _ c.in-Ok.ensures.told) c.in-Ok.ensures.shape
-    (reaches_read c.settle.ensures.way c.examine.ensures.reads)
+    (reaches_read c.settle_disk.ensures.way c.examine.ensures.reads)
     (λ i e. c.in-Ok-examine.ensures.ok i (sym c.examine.ensures.reads.zones ∙ e))
     (durable_read c.examine.ensures.reads c.in-Ok.ensures.durable) c.make_equal.ensures.kept
     (c.examine.ensures.reads.calls ∙ c.in-Ok.ensures.counted))
@@ -128,22 +128,22 @@ returns-in-Ok-pad-clause-settled g c two =
 pub returns-in-Err-pad-clause-way : goal.returns-in-Err-pad-clause-way
 returns-in-Err-pad-clause-way g c =
     pads_way (has_made (c.examine.ensures.reads.stays.told _ c.in-Ok.ensures.told) c.in-Ok.ensures.shape
-    (reaches_read c.settle.ensures.way c.examine.ensures.reads)
+    (reaches_read c.settle_disk.ensures.way c.examine.ensures.reads)
     (λ i e. c.in-Ok-examine.ensures.ok i (sym c.examine.ensures.reads.zones ∙ e))
     c.in-Ok-make_equal.ensures.ok c.make_equal.ensures.kept) c.pad.ensures.way
     (made_way (c.examine.ensures.reads.stays.told _ c.in-Ok.ensures.told) c.in-Ok.ensures.shape
-    (reaches_read c.settle.ensures.way c.examine.ensures.reads)
+    (reaches_read c.settle_disk.ensures.way c.examine.ensures.reads)
     (λ i e. c.in-Ok-examine.ensures.ok i (sym c.examine.ensures.reads.zones ∙ e))
     (durable_read c.examine.ensures.reads c.in-Ok.ensures.durable) c.make_equal.ensures.kept c.make_equal.ensures.way)
 
 pub returns-in-Err-pad-clause-kept : goal.returns-in-Err-pad-clause-kept
 returns-in-Err-pad-clause-kept g c =
     way_keeps (pads_way (has_made (c.examine.ensures.reads.stays.told _ c.in-Ok.ensures.told) c.in-Ok.ensures.shape
-    (reaches_read c.settle.ensures.way c.examine.ensures.reads)
+    (reaches_read c.settle_disk.ensures.way c.examine.ensures.reads)
     (λ i e. c.in-Ok-examine.ensures.ok i (sym c.examine.ensures.reads.zones ∙ e))
     c.in-Ok-make_equal.ensures.ok c.make_equal.ensures.kept) c.pad.ensures.way
     (made_way (c.examine.ensures.reads.stays.told _ c.in-Ok.ensures.told) c.in-Ok.ensures.shape
-    (reaches_read c.settle.ensures.way c.examine.ensures.reads)
+    (reaches_read c.settle_disk.ensures.way c.examine.ensures.reads)
     (λ i e. c.in-Ok-examine.ensures.ok i (sym c.examine.ensures.reads.zones ∙ e))
     (durable_read c.examine.ensures.reads c.in-Ok.ensures.durable) c.make_equal.ensures.kept
     c.make_equal.ensures.way))
@@ -151,11 +151,11 @@ returns-in-Err-pad-clause-kept g c =
 pub returns-in-Err-pad-clause-settled : goal.returns-in-Err-pad-clause-settled
 returns-in-Err-pad-clause-settled g c two =
     pads_keep (has_made (c.examine.ensures.reads.stays.told _ c.in-Ok.ensures.told) c.in-Ok.ensures.shape
-    (reaches_read c.settle.ensures.way c.examine.ensures.reads)
+    (reaches_read c.settle_disk.ensures.way c.examine.ensures.reads)
     (λ i e. c.in-Ok-examine.ensures.ok i (sym c.examine.ensures.reads.zones ∙ e))
     c.in-Ok-make_equal.ensures.ok c.make_equal.ensures.kept) c.pad.ensures.way
     (made_keeps (c.examine.ensures.reads.stays.told _ c.in-Ok.ensures.told) c.in-Ok.ensures.shape
-    (reaches_read c.settle.ensures.way c.examine.ensures.reads)
+    (reaches_read c.settle_disk.ensures.way c.examine.ensures.reads)
     (λ i e. c.in-Ok-examine.ensures.ok i (sym c.examine.ensures.reads.zones ∙ e))
     (durable_read c.examine.ensures.reads c.in-Ok.ensures.durable) c.make_equal.ensures.kept
     (c.examine.ensures.reads.calls ∙ c.in-Ok.ensures.counted))
@@ -174,12 +174,12 @@ returns-in-Ok-pad-clause-ok g c =
     (omega (arith, up.count, c.deref_mut.ensures.len)) in
     opening_is (c.make_equal.ensures.way.stays.told _ told) c.in-Ok-examine.ensures.usable
     (has_made (c.examine.ensures.reads.stays.told _ c.in-Ok.ensures.told) c.in-Ok.ensures.shape
-    (reaches_read c.settle.ensures.way c.examine.ensures.reads)
+    (reaches_read c.settle_disk.ensures.way c.examine.ensures.reads)
     (λ i e. c.in-Ok-examine.ensures.ok i (sym c.examine.ensures.reads.zones ∙ e))
     c.in-Ok-make_equal.ensures.ok c.make_equal.ensures.kept)
     (counted_sets image.geometry c.in-Ok-examine.ensures.usable.placed (omega (arith, shape)) told
     (c.examine.ensures.reads.calls ∙ c.in-Ok.ensures.counted)
-    (reaches_read c.settle.ensures.way c.examine.ensures.reads)
+    (reaches_read c.settle_disk.ensures.way c.examine.ensures.reads)
     c.make_equal.ensures.way.order c.in-Ok-make_equal.ensures.counted)
     (subst (λ (ns : List Bool). HasPads image.geometry ns image.pointers.items rounded
     (view c.make_equal.new.disk) (view c.pad.new.disk)) c.deref.ensures.value (record {

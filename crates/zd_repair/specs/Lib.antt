@@ -1,0 +1,4 @@
+pub mod Heads
+pub mod Reheaded
+pub mod Relabeled
+pub mod Upgraded
