@@ -8,6 +8,7 @@
 #![tactic(auto)]
 
 mod fault;
+mod generator;
 mod limits;
 mod line;
 mod number;
@@ -17,6 +18,7 @@ mod read;
 mod tests;
 
 pub use fault::ScriptFault;
+pub use generator::make;
 pub use plan::parse;
 pub use read::read_all;
 pub use zd_model::{BadLine, Request, What};
