@@ -1,8 +1,11 @@
 -- The generator of scripts: a sequence of numbers, and the plan that they make.
-use Rattle.std.specs.Prelude.{ℕ, zero, suc, ◌+◌, ◌-◌, ◌*◌, ◌%◌, min, nat_lt, if◌then◌else◌, List, map}
-use Rattle.std.specs.List.{range_with_len}
+use Rattle.std.specs.Prelude.{◌≡◌, ℕ, zero, suc, ◌+◌, ◌-◌, ◌*◌, ◌%◌, min, nat_lt, if◌then◌else◌, false}
+use Rattle.std.specs.Prelude.{List, map, flat_map}
+use Rattle.std.specs.List.{AllByRecursion, range_with_len}
+use Rattle.zd_model.specs.Plain.{ends_past}
 use Rattle.zd_model.specs.Requests.{Operation}
 use Rattle.zd_model.specs.Requests.Operation.{Reading, Writing, Discarding, Flushing}
+use Rattle.zd_model.specs.Script.{IsScript, line_text}
 use Rattle.zd_model.specs.declared.requests.Request.{Request}
 use Rattle.zd_model.specs.declared.requests.What.{What}
 use Rattle.zd_model.specs.declared.requests.What.TheVariants.{Read, Write, Discard, Flush}
@@ -75,3 +78,11 @@ draws_after x =
     let high = next_number caller in
     let low = next_number high in
     record { kind = kind; caller = caller; high = high; low = low; count = next_number low }
+
+-- the lines of the plan are a script
+abbrev pub IsWritten : List Request → Type 0
+IsWritten plan = IsScript (flat_map line_text plan) plan
+
+-- no request ends past a device of so many blocks
+abbrev pub AreInDevice : ℕ → List Request → Type 0
+AreInDevice blocks plan = AllByRecursion (λ r. ends_past (8 * blocks) r.what ≡ false) plan

@@ -2,8 +2,8 @@
 
 ghost use Rattle.std.specs.Prelude.{◌≡◌, ◌+◌, ◌%◌, ◌<◌, ◌≤◌, IfOk};
 ghost use Rattle.zd_plain.specs.Plan.{IsPlan};
-ghost use Rattle.zd_script.specs.Generator.{draws_after, made, next_number, operation_of_kind, request_of};
-ghost use Rattle.zd_script.specs.Generator.{what_made};
+ghost use Rattle.zd_script.specs.Generator.{AreInDevice, IsWritten, draws_after, made, next_number};
+ghost use Rattle.zd_script.specs.Generator.{operation_of_kind, request_of, what_made};
 
 use std::alloc::Global;
 use zd_base::Memory;
@@ -46,16 +46,12 @@ impl Numbers {
 fn what_of(kind: u32, block: u64, count: u32, seed: u32) -> What
     ensures { result ≡ what_made (operation_of_kind kind) block count seed }
 {
-    if kind < 8 {
-        return What::Write { block, count, seed };
+    match kind {
+        0..=7 => What::Write { block, count, seed },
+        8..=12 => What::Read { block, count },
+        13 | 14 => What::Discard { block, count },
+        _ => What::Flush,
     }
-    if kind < 13 {
-        return What::Read { block, count };
-    }
-    if kind < 15 {
-        return What::Discard { block, count };
-    }
-    What::Flush
 }
 
 /// The request that the next five numbers make.
@@ -81,11 +77,14 @@ fn next_request(numbers: &mut Numbers, number: u32, blocks: u64) -> Request
 /// 0 to 3, of all kinds, of at most 8 blocks each and within the device, and a write has its request's
 /// number as its seed.
 ///
-/// Each request takes five numbers of a sequence, whatever its kind.
+/// Each request takes five numbers of a sequence, whatever its kind. Up to 4,096 requests are within the
+/// limits of a script.
 pub fn make(alloc: Global, seed: u64, n: u32, blocks: u64) -> Result<Plan, Memory>
     requires { 1 ≤ blocks }
     ensures value { IfOk result (λ plan. plan ≡ made seed n blocks) }
     ensures plan { IfOk result IsPlan }
+    ensures inside { IfOk result (AreInDevice blocks) }
+    ensures script { IfOk result (λ plan. n ≤ 4096 → IsWritten plan) }
 {
     let mut numbers = Numbers::of_seed(seed);
     let mut plan = Plan::new(alloc);
