@@ -2,10 +2,10 @@
 
 ghost use Rattle.std.specs.Prelude.{◌≡◌, ◌↔◌, ◌/◌, ◌<◌, ◌++◌, ◌∷◌, [], List, ℕ, IsTrue, length};
 ghost use Rattle.zd_model.specs.Bytes.{sectors_of};
-ghost use Rattle.zd_model.specs.Entries.{shown_entry};
+ghost use Rattle.zd_model.specs.Entries.{answer_of, shown_entry};
 ghost use Rattle.zd_model.specs.History.{HistoryEntry};
 ghost use Rattle.zd_model.specs.Stops.{MayHold};
-ghost use Rattle.zd_hold.specs.Held.{IsHeld};
+ghost use Rattle.zd_hold.specs.Held.{IsHeld, now_after};
 
 use crate::puts::{is_acknowledged, may_count, put_at};
 use zd_base::SECTOR;
@@ -31,6 +31,16 @@ struct Held {
     may: bool,
 }
 
+/// Whether the plain array has the value after an entry that puts it there, or another.
+fn now_after(before: bool, reply: &Reply, same: bool) -> bool
+    ensures { result ≡ now_after before (answer_of reply.now) same }
+{
+    match reply {
+        Reply::Done => same,
+        Reply::Got(_) | Reply::Range | Reply::Fault => before,
+    }
+}
+
 impl Held {
     /// What they say with one entry more.
     fn after(self, entry: &Entry, asked: Asked) -> Held
@@ -49,13 +59,10 @@ impl Held {
             return self;
         };
         let same = put.as_slice() == asked.value;
+        let may = self.may || same && may_count(entry, asked.calls);
         Held {
-            now: if matches!(entry.reply, Reply::Done) {
-                same
-            } else {
-                self.now
-            },
-            may: self.may || same && may_count(entry, asked.calls),
+            now: now_after(self.now, &entry.reply, same),
+            may,
         }
     }
 }

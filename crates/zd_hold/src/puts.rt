@@ -12,6 +12,7 @@ use zd_plain::{first_sector, pattern, sector_count};
 
 /// What a request puts into a sector of a device of so many sectors. `None` where it puts nothing there, also
 /// where it ends past the device.
+#[tactic(auto, unfolding(zd_model::specs::Bytes::zero_sector))]
 pub fn put_at(sectors: u64, what: What, sector: u64) -> Option<[u8; SECTOR]>
     ensures { result ≡ put_at sectors what sector }
 {
