@@ -11,3 +11,5 @@ pub mod MapSteps
 pub mod WriteSteps
 pub mod PromotionSteps
 pub mod ClosedLaws
+pub mod NextRuns
+pub mod JobStarts
