@@ -22,6 +22,7 @@ HasToReset v kind zone = (kind ≡ Move) × IsLeastOf Sequential v.division zone
 pub record ResetsZone {T E : Type 0} (zone : ℕ) (result : Result T E) (u x : View) : Type 0 where
   pub call : Calls (λ _. ResetStep zone) (λ _ j. ResetLeaves j zone) u x
   pub ok : OnOk result (Turns (WasReset zone) u x)
+  pub err : OnErr result (Turns (ResetStep zone) u x)
   pub cause : Fails result u x
 
 -- ONE WRITE of these bytes into a zone from this sector on, done or failed

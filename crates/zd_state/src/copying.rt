@@ -1,6 +1,6 @@
 //! Copies: blocks of a job's source are read ahead, and written into its target.
 
-ghost use Rattle.std.specs.Prelude.{◌≡◌, ℕ, ◌+◌, ◌*◌, ◌<◌, ◌≤◌, length, take, IfErr, IsSomeAnd, OnErr, OnOk, None, Some};
+ghost use Rattle.std.specs.Prelude.{◌≡◌, ℕ, ◌+◌, ◌*◌, ◌<◌, ◌≤◌, length, replicate, take, IfErr, IfSome, IsSomeAnd, OnErr, OnOk, None, Some};
 ghost use Rattle.zd_alloc.specs.Candidates.{GivesClass};
 ghost use Rattle.zd_base.specs.Geometry.{zone_count};
 ghost use Rattle.zd_base.specs.declared.steps.StepKind.{StepKind};
@@ -24,19 +24,43 @@ use zd_volume::Work;
 /// The sectors of a block.
 const BLOCK_SECTORS: u32 = 8;
 
+/// Reads so many blocks of a zone from block `first` on, by one call of the disk, to the front of these bytes.
+fn read_front<D: ZonedDisk>(
+    disk: &mut D,
+    run: &CopyRun,
+    into: &mut [u8],
+) -> Result<(), Failed>
+    requires some { 0 < run.now.count }
+    requires first { run.now.at < 65536 }
+    requires room { 4096 * run.now.count ≤ length into.old }
+    requires inside { IsSomeAnd (D.view disk.old).told (IsInside run.now.zone (8 * run.now.at) (8 * run.now.count)) }
+    requires below { WhereTold (D.view disk.old).zones (λ i. 8 * run.now.at + 8 * run.now.count ≤ i.held run.now.zone) }
+    ensures value { OnOk result (IfSome (D.view disk.old).zones (λ i. take (4096 * run.now.count) into.new
+        ≡ run_of (i.sector run.now.zone) (8 * run.now.at) (8 * run.now.count))) }
+    ensures size { length into.new ≡ length into.old }
+    ensures read_calls { ReadsOnce (D.view disk.old) (D.view disk.new) }
+    ensures reads { OnlyReads (D.view disk.old) (D.view disk.new) }
+    ensures cause { Fails result (D.view disk.old) (D.view disk.new) }
+{
+    let len = BLOCK * run.count as usize;
+    disk.read(run.zone, BLOCK_SECTORS * run.at, &mut into[..len])
+}
+
 /// Reads a run of blocks, by one call of the disk, to the front of the copy buffer.
 fn read_ahead<D: ZonedDisk>(
     disk: &mut D,
     state: &mut VolumeState,
-    run: CopyRun,
+    run: &CopyRun,
 ) -> Result<(), Failed>
-    requires some { 0 < run.count }
-    requires few { run.count ≤ 32 }
+    requires told { (D.view disk.old).told ≡ Some state.old.plain.geometry }
     requires size { length state.old.plain.buffer ≡ 4096 * 32 }
-    requires inside { IsSomeAnd (D.view disk.old).told (IsInside run.zone (8 * run.at) (8 * run.count)) }
-    requires below { WhereTold (D.view disk.old).zones (λ i. 8 * run.at + 8 * run.count ≤ i.held run.zone) }
-    ensures value { OnOk result (WhereTold (D.view disk.old).zones (λ i. take (4096 * run.count) state.new.plain.buffer
-        ≡ run_of (i.sector run.zone) (8 * run.at) (8 * run.count))) }
+    requires some { 0 < run.now.count }
+    requires few { run.now.count ≤ 32 }
+    requires zone { run.now.zone < zone_count state.old.plain.geometry }
+    requires inside { run.now.at + run.now.count ≤ state.old.plain.geometry.zone_blocks }
+    requires below { WhereTold (D.view disk.old).zones (λ i. 8 * run.now.at + 8 * run.now.count ≤ i.held run.now.zone) }
+    ensures value { OnOk result (WhereTold (D.view disk.old).zones (λ i. take (4096 * run.now.count)
+        state.new.plain.buffer ≡ run_of (i.sector run.now.zone) (8 * run.now.at) (8 * run.now.count))) }
     ensures size { length state.new.plain.buffer ≡ length state.old.plain.buffer }
     ensures rest { state.new ≡ record state.old {
       plain = record state.old.plain { buffer = state.new.plain.buffer };
@@ -45,12 +69,8 @@ fn read_ahead<D: ZonedDisk>(
     ensures reads { OnlyReads (D.view disk.old) (D.view disk.new) }
     ensures cause { Fails result (D.view disk.old) (D.view disk.new) }
 {
-    let len = BLOCK * run.count as usize;
-    disk.read(
-        run.zone,
-        BLOCK_SECTORS * run.at,
-        &mut state.buffer[..len],
-    )
+    let _zone_blocks = state.geometry().zone_blocks();
+    read_front(disk, run, &mut state.buffer)
 }
 
 /// Writes so many blocks from the front of the copy buffer into a zone from block `first` on, by one call of the
@@ -62,23 +82,35 @@ fn put_copy<D: ZonedDisk>(
     first: u32,
     count: u32,
 ) -> Result<(), Failed>
+    requires told { (D.view disk.old).told ≡ Some state.now.plain.geometry }
+    requires size { length state.now.plain.buffer ≡ 4096 * 32 }
     requires some { 0 < count }
     requires few { count ≤ 32 }
-    requires size { length state.now.plain.buffer ≡ 4096 * 32 }
-    requires inside { IsSomeAnd (D.view disk.old).told (IsInside zone (8 * first) (8 * count)) }
+    requires zone { zone < zone_count state.now.plain.geometry }
+    requires inside { first + count ≤ state.now.plain.geometry.zone_blocks }
     requires pointer { WhereTold (D.view disk.old).zones (λ i. i.geometry.conv ≤ zone → 8 * first ≡ i.held zone) }
     ensures { WritesBytes zone (8 * first) (take (4096 * count) state.now.plain.buffer) result
         (D.view disk.old) (D.view disk.new) }
 {
+    let _zone_blocks = state.geometry().zone_blocks();
     let len = BLOCK * count as usize;
     disk.write(zone, BLOCK_SECTORS * first, &state.buffer[..len])
 }
 
+/// So many bytes from the first on are zeros.
+fn clear_front(bytes: &mut [u8], len: usize)
+    requires { len ≤ length bytes.old }
+    ensures value { take len bytes.new ≡ replicate len 0 }
+    ensures size { length bytes.new ≡ length bytes.old }
+{
+    bytes[..len].fill(0);
+}
+
 impl VolumeState {
     /// A run was read.
-    fn note_read(&mut self, work: &Work, run: CopyRun)
+    fn note_read(&mut self, work: &Work, run: &CopyRun)
         ensures { self.new ≡ record self.old {
-          plain = record self.old.plain { job = Some (record work.now { copied = run.at; read = run.count }) };
+          plain = record self.old.plain { job = Some (record work.now { copied = run.now.at; read = run.now.count }) };
         } }
     {
         self.job = Some(Work {
@@ -102,8 +134,7 @@ impl VolumeState {
     {
         let run = self.next_run(work).unwrap();
         let count = (run.at - work.copied).min(COPY_UNIT);
-        let len = BLOCK * count as usize;
-        self.buffer[..len].fill(0);
+        clear_front(&mut self.buffer, BLOCK * count as usize);
         count
     }
 
@@ -167,11 +198,11 @@ impl<D: ZonedDisk> Volume<D> {
     {
         let work = self.state.job.unwrap();
         let run = self.state.next_run(&work).unwrap();
-        if read_ahead(&mut self.disk, &mut self.state, run).is_err() {
+        if read_ahead(&mut self.disk, &mut self.state, &run).is_err() {
             self.state.stop_by_device();
             return Err(Why::Device);
         }
-        self.state.note_read(&work, run);
+        self.state.note_read(&work, &run);
         Ok(())
     }
 
