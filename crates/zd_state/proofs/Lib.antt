@@ -13,3 +13,4 @@ pub mod PromotionSteps
 pub mod ClosedLaws
 pub mod NextRuns
 pub mod JobStarts
+pub mod CopySteps
