@@ -14,3 +14,5 @@ pub mod ClosedLaws
 pub mod NextRuns
 pub mod JobStarts
 pub mod CopySteps
+pub mod JoinSteps
+pub mod RemapSteps

@@ -52,6 +52,7 @@ impl VolumeState {
           };
         } }
     {
+        let _fits = self.tables.layout();
         let end = self.geometry().zone_blocks();
         let (valid, count) = self.tables.run_at(from, at, end);
         if valid {
