@@ -255,3 +255,98 @@ module _ (v : PlainVolume) (w : Work) (fixed : IsFixed v) (is : v.job ≡ Some w
         } in
         (sets_remapped v (after d (set v.standings.classes w.job.chunk class)) w fixed is
         (remap_did d (set v.standings.classes w.job.chunk class) refl refl refl some_classes)).new_rules
+
+  -- THE STEPS: the entry is set, the bits are joined and cleared
+  module _ (a : PlainVolume) (entered : a ≡ record v { fresh = a.fresh; dirty = a.dirty })
+      (sets : SetsEntry w.job.chunk (record { zone = w.target; buffer = None }) v.fresh a.fresh)
+      (marked : a.dirty ≡ set v.dirty (entry_block w.job.chunk) true) where
+    pub left_there : y < zone_count a.geometry
+    left_there = subst (λ (u : PlainVolume). y < zone_count u.geometry) (sym entered) left_low
+
+    pub target_there : (z : ℕ) → w.target ≡ Some z → z < zone_count a.geometry
+    target_there z target =
+        subst (λ (u : PlainVolume). z < zone_count u.geometry) (sym entered) (target_low v w fixed is z target)
+
+    module _ (b : PlainVolume) (both : b ≡ record a { fresh = b.fresh; dirty = b.dirty })
+        (joins : JoinsInto a.geometry a.head.layout y w.target a.fresh b.fresh a.dirty b.dirty) where
+      pub left_still : (z : ℕ) → ◌≡◌ {A = Option ℕ} (Some y) (Some z) → z < zone_count b.geometry
+      left_still z same =
+          subst (λ (u : PlainVolume). z < zone_count u.geometry) (sym (both ∙ ap (λ (u : PlainVolume). record u {
+            fresh = b.fresh;
+            dirty = b.dirty;
+          }) entered))
+          (subst (λ (n : ℕ). n < zone_count v.geometry) (some_is y z same) left_low)
+
+      joins_here : JoinsInto v.geometry v.head.layout y w.target a.fresh b.fresh
+          (set v.dirty (entry_block w.job.chunk) true) b.dirty
+      joins_here =
+          subst (λ (flags : List Bool). JoinsInto v.geometry v.head.layout y w.target a.fresh b.fresh flags b.dirty) marked
+          (subst (λ (u : PlainVolume). JoinsInto u.geometry u.head.layout y w.target a.fresh b.fresh a.dirty b.dirty)
+          entered joins)
+
+      module _ (blocks : ℕ) (all : blocks ≡ v.geometry.zone_blocks) (c : PlainVolume)
+          (bits : c ≡ record b { fresh = c.fresh; dirty = c.dirty })
+          (clears : GivesBits false b.geometry b.head.layout y 0 (0 + blocks) b.fresh c.fresh b.dirty c.dirty) where
+        so_far : c ≡ record v { fresh = c.fresh; dirty = c.dirty }
+        so_far =
+            bits
+            ∙ ap (λ (u : PlainVolume). record u { fresh = c.fresh; dirty = c.dirty })
+            (both ∙ ap (λ (u : PlainVolume). record u { fresh = b.fresh; dirty = b.dirty }) entered)
+
+        clears_here : GivesBits false v.geometry v.head.layout y 0 v.geometry.zone_blocks b.fresh c.fresh b.dirty c.dirty
+        clears_here =
+            subst (λ (n : ℕ). GivesBits false v.geometry v.head.layout y 0 n b.fresh c.fresh b.dirty c.dirty)
+            (let same : 0 + blocks ≡ v.geometry.zone_blocks = omega (arith, all) in same)
+            (subst (λ (u : PlainVolume). GivesBits false u.geometry u.head.layout y 0 (0 + blocks) b.fresh c.fresh b.dirty
+            c.dirty) (both ∙ ap (λ (u : PlainVolume). record u { fresh = b.fresh; dirty = b.dirty }) entered) clears)
+
+        -- what the release asks for
+        pub left_flag : y < length c.named
+        left_flag =
+            subst (λ (u : PlainVolume). y < length u.named) (sym so_far)
+            (let low = left_low in let size = fixed.named.size in omega (arith, low, size))
+
+        pub left_inside : y < length c.division.zones
+        left_inside =
+            subst (λ (u : PlainVolume). y < length u.division.zones) (sym so_far)
+            (let low = left_low in let count = fixed.uses.count in omega (arith, low, count))
+
+        pub left_in_use : use_at c.division.zones y ≡ Held
+        left_in_use = subst (λ (u : PlainVolume). use_at u.division.zones y ≡ Held) (sym so_far) left_held
+
+        -- the zone is released, and the job has ended
+        module _ (d : PlainVolume) (released : d ≡ record c { division = d.division }) (e : PlainVolume)
+            (ended : e ≡ record d { job = None }) where
+          before_class : e ≡ record v { fresh = c.fresh; dirty = c.dirty; division = d.division; job = None }
+          before_class =
+              ended
+              ∙ ap (λ (u : PlainVolume). record u { job = None })
+              (released ∙ ap (λ (u : PlainVolume). record u { division = d.division }) so_far)
+
+          pub rules_in_steps : FollowRules e.geometry e.head.layout e.fresh
+          rules_in_steps =
+              subst (λ (u : PlainVolume). FollowRules u.geometry u.head.layout u.fresh) (sym before_class)
+              (rules_remapped a.fresh sets b.fresh b.dirty joins_here c.fresh c.dirty clears_here)
+
+          pub remaps_in_steps : (f : PlainVolume)
+              → f ≡ record e { standings = record e.standings { classes = f.standings.classes } }
+              → d.division.zones ≡ set c.division.zones y (use_after_release (get_or c.named y false))
+              → d.division.conv ≡ c.division.conv → d.division.order ≡ c.division.order
+              → GivesClass w.job.chunk (class_in e.geometry e.pointers (tables_in e.geometry e.head.layout e.fresh)
+              w.job.chunk) e.standings.classes f.standings.classes
+              → RemapsChunk v f w
+          remaps_in_steps f classed zones conv order given =
+              subst (λ (u : PlainVolume). RemapsChunk v u w)
+              (sym (classed ∙ ap (λ (u : PlainVolume). record u {
+                standings = record u.standings { classes = f.standings.classes };
+              }) before_class))
+              (remap_did a.fresh sets b.fresh b.dirty joins_here c.fresh c.dirty clears_here d.division
+              f.standings.classes
+              (zones
+              ∙ ap (λ (u : PlainVolume). set u.division.zones y (use_after_release (get_or u.named y false))) so_far
+              ∙ ap (λ (o : Option ℕ). uses_without o v.named v.division.zones) (sym gives))
+              (conv ∙ ap (λ (u : PlainVolume). u.division.conv) so_far)
+              (order ∙ ap (λ (u : PlainVolume). u.division.order) so_far)
+              (subst (λ (u : PlainVolume). GivesClass w.job.chunk (class_in u.geometry u.pointers
+              (tables_in u.geometry u.head.layout u.fresh) w.job.chunk) u.standings.classes f.standings.classes)
+              before_class given))
