@@ -103,28 +103,28 @@ fails_read v a b read size stopped =
 
 -- A WRITE FAILED
 module _ (v a : PlainVolume) (filled : a ≡ record v { buffer = a.buffer }) (size : length a.buffer ≡ length v.buffer)
-    where
-  pub fails_write : (b : PlainVolume) → b ≡ record a { since = next_count a.since; stopped = Some Why.Device }
-      → FailsCopyWrite v b
-  fails_write b stopped =
-      let buffer : b.buffer ≡ a.buffer = ap (λ (u : PlainVolume). u.buffer) stopped in
-      record {
-        size = ap (λ (xs : List ℕ). length xs) buffer ∙ size;
-        rest = stopped
-            ∙ ap (λ (u : PlainVolume). record u { since = next_count u.since; stopped = Some Why.Device }) filled
-            ∙ ap (λ (xs : List ℕ). record v {
-              buffer = xs;
-              since = next_count v.since;
-              stopped = Some Why.Device;
-            }) (sym buffer);
-      }
+  where
+    pub fails_write : (b : PlainVolume) → b ≡ record a { since = next_count a.since; stopped = Some Why.Device }
+        → FailsCopyWrite v b
+    fails_write b stopped =
+        let buffer : b.buffer ≡ a.buffer = ap (λ (u : PlainVolume). u.buffer) stopped in
+        record {
+          size = ap (λ (xs : List ℕ). length xs) buffer ∙ size;
+          rest = stopped
+              ∙ ap (λ (u : PlainVolume). record u { since = next_count u.since; stopped = Some Why.Device }) filled
+              ∙ ap (λ (xs : List ℕ). record v {
+                buffer = xs;
+                since = next_count v.since;
+                stopped = Some Why.Device;
+              }) (sym buffer);
+        }
 
-  -- or it was done
-  pub fixed_filled : IsFixed v → IsFixed a
-  fixed_filled fixed = subst IsFixed (sym filled) (fixed_buffer v fixed a.buffer v.since v.stopped size)
+    -- or it was done
+    pub fixed_filled : IsFixed v → IsFixed a
+    fixed_filled fixed = subst IsFixed (sym filled) (fixed_buffer v fixed a.buffer v.since v.stopped size)
 
-  pub copied_filled : (b : PlainVolume) (w : Work) (zone count : ℕ) → WritesBlocksOn a b w zone count
-      → WritesBlocksOn v b w zone count
-  copied_filled b w zone count did =
-      let here = subst (λ (u : PlainVolume). WritesBlocksOn u b w zone count) filled did in
-      record { target = here.target; size = here.size ∙ size; classes = here.classes; rest = here.rest }
+    pub copied_filled : (b : PlainVolume) (w : Work) (zone count : ℕ) → WritesBlocksOn a b w zone count
+        → WritesBlocksOn v b w zone count
+    copied_filled b w zone count did =
+        let here = subst (λ (u : PlainVolume). WritesBlocksOn u b w zone count) filled did in
+        record { target = here.target; size = here.size ∙ size; classes = here.classes; rest = here.rest }

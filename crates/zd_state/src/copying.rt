@@ -25,11 +25,7 @@ use zd_volume::Work;
 const BLOCK_SECTORS: u32 = 8;
 
 /// Reads so many blocks of a zone from block `first` on, by one call of the disk, to the front of these bytes.
-fn read_front<D: ZonedDisk>(
-    disk: &mut D,
-    run: &CopyRun,
-    into: &mut [u8],
-) -> Result<(), Failed>
+fn read_front<D: ZonedDisk>(disk: &mut D, run: &CopyRun, into: &mut [u8]) -> Result<(), Failed>
     requires some { 0 < run.now.count }
     requires first { run.now.at < 65536 }
     requires room { 4096 * run.now.count ≤ length into.old }

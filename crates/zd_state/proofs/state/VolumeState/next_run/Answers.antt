@@ -36,8 +36,7 @@ returns-clause-some c =
     let names : c.entry.result ≡ entry_of (tables_now v) c.args.work.now.job.chunk =
     rw (← c.self.view_is) (rw c.self.invariant at c.entry.ensures) in
     let from : source v c.args.work.now ≡ Some c.in_ok-zone.zone =
-    sym (ap (source_of c.args.work.now.job.kind) names) ∙ sym c.source_of.ensures ∙ c.in_ok-zone.was in
-    (
+    sym (ap (source_of c.args.work.now.job.kind) names) ∙ sym c.source_of.ensures ∙ c.in_ok-zone.was in (
       run_left v c.args.work.now c.requires.fixed c.requires.job c.in_ok-zone.zone from c.in_ok-at.at c.min.result
           c.run_at-count.result.1 c.run_at-count.result.0
           (rw (← c.self.view_is)
