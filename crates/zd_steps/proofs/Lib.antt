@@ -1,2 +1,9 @@
+pub mod MemberLaws
 pub mod LinkLaws
 pub mod EnterLaws
+pub mod LeastLaws
+pub mod EnteredLaws
+pub mod EligibleLaws
+pub mod FirstLaws
+pub mod ToldLaws
+pub mod ChosenLaws

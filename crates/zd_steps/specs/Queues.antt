@@ -1,9 +1,9 @@
 -- The pieces of all callers, each caller's first that isn't entered, and what is in flight.
-use Rattle.std.specs.Prelude.{◌≡◌, ◌≢◌, ◌⊎◌, ℕ, ◌+◌, ◌<◌, ◌≤◌, Bool, true, false, ◌||◌, List, length, map, take, get_or}
-use Rattle.std.specs.Prelude.{slice_get, slice_index, Option, Some, None}
+use Rattle.std.specs.Prelude.{◌≡◌, ◌≢◌, ◌⊎◌, ℕ, ◌+◌, ◌<◌, ◌≤◌, Bool, true, false, not, ◌&&◌, ◌||◌, List, length, map, take, get_or}
+use Rattle.std.specs.Prelude.{slice_get, slice_index, slice_set, ◌++◌, ◌∷◌, [], Option, Some, None}
 use Rattle.zd_model.specs.History.{Mark, mark_of_piece, marks_of_caller}
 use Rattle.zd_model.specs.declared.requests.Piece.{Piece}
-use Rattle.zd_steps.specs.Runs.{Run, Standing, flight_of, flushes, is_ready, reads, writes}
+use Rattle.zd_steps.specs.Runs.{Run, Standing, flies_in, flushes, is_held_in, is_ready, lacks_zone, reads, writes}
 
 -- p stands before q in the script
 abbrev pub Precedes : Piece → Piece → Type 0
@@ -81,14 +81,64 @@ pub record AreFlights (h : Callers) (flights : List (Option Piece)) : Type 0 whe
   pub apart : (a b : ℕ) (p q : Piece) → slice_get flights a ≡ Some (Some p)
       → slice_get flights b ≡ Some (Some q) → p.caller ≡ q.caller → a ≡ b
 
--- the least head, from a place on, of the callers that are marked; the end where there is none
-pub record IsLeast (h : Callers) (marked : List Bool) (from place : ℕ) : Type 0 where
+-- what contracts see of a queue
+pub record QueueState : Type 0 where
+  pub chunk_blocks : ℕ
+  pub callers : Callers
+  pub flights : List (Option Piece)
+
+-- what is always true of one
+pub record IsQueue (h : Callers) (flights : List (Option Piece)) : Type 0 where
+  pub script : IsScriptOf 64 h.pieces
+  pub heads : AreHeads h.pieces h.heads
+  pub flying : AreFlights h flights
+
+-- the run in which these are entered
+abbrev pub run_of : QueueState → List Mark → Run
+run_of q entered = record {
+  chunk_blocks = q.chunk_blocks;
+  pieces = q.callers.pieces;
+  entered = entered;
+  flights = q.flights;
+}
+
+-- an actor may serve this piece: it is its caller's first, no other actor has it in flight, and this one has
+-- nothing else
+pub record MayServe (q : QueueState) (actor : ℕ) (p : Piece) : Type 0 where
+  pub first : first_of q.callers p.caller ≡ Some p
+  pub alone : (a : ℕ) (f : Piece) → slice_get q.flights a ≡ Some (Some f) → f.caller ≡ p.caller → a ≡ actor
+  pub only : (f : Piece) → slice_get q.flights actor ≡ Some (Some f) → f ≡ p
+
+-- A PIECE IS ENTERED: its caller goes on to its next piece, and the actor has nothing in flight
+pub record EntersPiece (old new : QueueState) (actor : ℕ) (p : Piece) : Type 0 where
+  pub rest : new ≡ record old { callers = new.callers; flights = slice_set old.flights actor None }
+  pub pieces : new.callers.pieces ≡ old.callers.pieces
+  pub others : (c : ℕ) → c ≢ p.caller → first_of new.callers c ≡ first_of old.callers c
+  pub entered : (marks : List Mark) → HasEntered old.callers marks
+      → HasEntered new.callers (marks ++ mark_of_piece p ∷ [])
+
+-- THE FLUSHES OF A COMMIT ARE ENTERED
+pub record EntersFlushes (old new : QueueState) (list : List Piece) : Type 0 where
+  pub rest : new ≡ record old { callers = new.callers }
+  pub pieces : new.callers.pieces ≡ old.callers.pieces
+  pub entered : (marks : List Mark) → HasEntered old.callers marks
+      → HasEntered new.callers (marks ++ map mark_of_piece list)
+
+-- the place, from one on, of the least head whose piece passes; the end where none does
+pub record IsLeast (h : Callers) (test : Piece → Bool) (from place : ℕ) : Type 0 where
   pub within : place ≤ length h.pieces
   pub above : from ≤ length h.pieces → from ≤ place
-  pub here : place < length h.pieces → (c : ℕ) × (c < 64) × (from ≤ place)
-      × (get_or marked c false ≡ true) × (head_of h c ≡ place)
-  pub least : (c : ℕ) → c < 64 → get_or marked c false ≡ true
+  pub here : (p : Piece) → slice_get h.pieces place ≡ Some p
+      → (head_of h p.caller ≡ place) × (test p ≡ true)
+  pub least : (c : ℕ) (p : Piece) → first_of h c ≡ Some p → test p ≡ true
       → from ≤ head_of h c → place ≤ head_of h c
+
+-- a first piece is served by an actor with nothing in flight; it wants a zone
+abbrev pub is_first_servable : ℕ → List (Option Piece) → Standing → Piece → Bool
+is_first_servable z flights v p = not (is_held_in z flights p) && is_ready v p
+
+abbrev pub is_first_wanting : ℕ → List (Option Piece) → Standing → Piece → Bool
+is_first_wanting z flights v p = (not (is_held_in z flights p) || flies_in flights p) && lacks_zone v p
 
 -- the links from place i on, and for each caller its first place from there on
 pub record AreLinkedFrom (pieces : List Piece) (links heads : List ℕ) (i : ℕ) : Type 0 where

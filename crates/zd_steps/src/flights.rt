@@ -1,6 +1,6 @@
 //! The pieces in flight.
 
-ghost use Rattle.std.specs.Prelude.{◌≡◌, ◌<◌, IfOk, None, length, replicate, set};
+ghost use Rattle.std.specs.Prelude.{◌≡◌, ◌<◌, IfOk, None, Some, length, replicate, slice_get};
 ghost use Rattle.zd_steps.specs.Runs.{chunk_of, flies_in, is_flight_of, is_flight_on, is_held_in};
 
 use std::alloc::Global;
@@ -60,6 +60,14 @@ impl Flights {
             chunk_blocks,
             pieces,
         })
+    }
+
+    /// What an actor has in flight.
+    pub(crate) fn of(&self, actor: usize) -> Option<Piece>
+        requires { actor < length self.now.pieces.items }
+        ensures { slice_get self.now.pieces.items actor ≡ Some result }
+    {
+        self.pieces[actor]
     }
 
     /// Whether a piece is in flight on the chunk of this one.

@@ -1,7 +1,7 @@
 //! The first piece of each caller that isn't entered.
 
-ghost use Rattle.std.specs.Prelude.{◌≡◌, ◌≢◌, ℕ, ◌+◌, ◌<◌, ◌≤◌, ◌^◌, ◌++◌, ◌∷◌, [], List, Some, IfOk};
-ghost use Rattle.std.specs.Prelude.{Decides, length, option_copied, replicate, slice_get};
+ghost use Rattle.std.specs.Prelude.{◌≡◌, ◌≢◌, ℕ, ◌+◌, ◌<◌, ◌≤◌, ◌^◌, ◌++◌, ◌∷◌, [], Bool, List, Some, IfOk};
+ghost use Rattle.std.specs.Prelude.{Contains, Decides, length, option_copied, replicate, slice_get};
 ghost use Rattle.zd_model.specs.History.{Mark, mark_of_piece};
 ghost use Rattle.zd_model.specs.declared.requests.Piece.{Piece};
 ghost use Rattle.zd_steps.specs.Queues.{AreLinkedFrom, HasEntered, HaveCallersBelow, IsLeast, first_of, head_of};
@@ -33,6 +33,18 @@ impl Model for Heads {
 
     ghost invariant = { λ h. HaveCallersBelow 64 h.pieces.items
         × AreLinks h.pieces.items h.links.items × AreHeads h.pieces.items h.heads };
+}
+
+/// A test of a caller's first piece.
+pub(crate) trait PieceTest {
+    ghost test: { Self → Piece → Bool };
+
+    /// The pieces that it can be asked about.
+    ghost takes: { Self → Piece → Type 0 };
+
+    fn passes(&self, piece: &Piece) -> bool
+        requires { takes self.now piece.now }
+        ensures { result ≡ test self.now piece.now };
 }
 
 /// Links the piece at place i, behind which all are linked.
@@ -120,15 +132,14 @@ impl Heads {
         self.heads[caller] = self.links[self.heads[caller]];
     }
 
-    /// The least head from a place on of the callers that are marked; the count of pieces where there is none.
-    pub(crate) fn least(&self, marked: &[bool; CALLERS], from: usize) -> usize
-        ensures least { IsLeast self.now marked.now from result }
-        ensures count { length self.now.pieces < 2 ^ 64 }
+    /// The place, from one on, of the least head whose piece passes; the count of pieces where none does.
+    pub(crate) fn least<T: PieceTest>(&self, test: &T, from: usize) -> usize
+        requires { (p : Piece) → Contains self.now.pieces p → T.takes test.now p }
+        ensures { IsLeast self.now (T.test test.now) from result }
     {
         let mut least = self.pieces.len();
-        for caller in 0..CALLERS {
-            let head = self.heads[caller];
-            if marked[caller] && from <= head && head < least {
+        for head in self.heads {
+            if from <= head && head < least && test.passes(&self.pieces[head]) {
                 least = head;
             }
         }

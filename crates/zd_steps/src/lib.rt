@@ -3,7 +3,11 @@
 
 mod flights;
 mod heads;
+mod queue;
+mod ready;
 mod standing;
 mod step;
 
+pub use queue::Queue;
+pub use standing::HasStanding;
 pub use step::Step;
