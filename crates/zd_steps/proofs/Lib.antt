@@ -7,3 +7,5 @@ pub mod EligibleLaws
 pub mod FirstLaws
 pub mod ToldLaws
 pub mod ChosenLaws
+pub mod FlushLaws
+pub mod KeptLaws

@@ -6,12 +6,12 @@ use Rattle.std.proofs.lemmas.List.{get_or-set_same, get_or-set_other, get_or_def
 use Rattle.std.proofs.lemmas.List.{get_or-replicate, length-replicate, length-set}
 use Rattle.std.proofs.lemmas.Option.{none-some, same_Some, slice_get_within, slice_get-get_or, slice_get_past}
 use Rattle.zd_model.specs.declared.requests.Piece.{Piece}
-use Rattle.zd_model.specs.declared.requests.What.TheVariants.{Flush}
+use Rattle.zd_model.specs.declared.requests.What.TheVariants.{Read}
 use Rattle.zd_steps.specs.Queues.{HaveCallersBelow, IsFirstFrom, AreLinks, AreLinkedFrom, AreHeads, head_in}
 
--- some piece, where one is read behind all pieces
+-- what is read behind all pieces
 abbrev pub nobody : Piece
-nobody = record { caller = 0; request = 0; piece = 0; what = Flush; range = false }
+nobody = record { caller = 0; request = 0; piece = 0; what = Read 0 0; range = false }
 
 -- one head is set anew, the others stay
 pub one_set : (pieces : List Piece) (heads : List ℕ) (caller j : ℕ) → caller < length heads → (P : ℕ → ℕ → Type 0)

@@ -117,6 +117,13 @@ pub record EntersPiece (old new : QueueState) (actor : ℕ) (p : Piece) : Type 0
   pub entered : (marks : List Mark) → HasEntered old.callers marks
       → HasEntered new.callers (marks ++ mark_of_piece p ∷ [])
 
+-- these are the first pieces of different callers
+pub record AreFirsts (h : Callers) (list : List Piece) : Type 0 where
+  pub first : (k : ℕ) (p : Piece) → slice_get list k ≡ Some p → first_of h p.caller ≡ Some p
+  pub known : (k : ℕ) (p : Piece) → slice_get list k ≡ Some p → p.caller < 64
+  pub apart : (j k : ℕ) (p q : Piece) → j < k → slice_get list j ≡ Some p
+      → slice_get list k ≡ Some q → p.caller ≢ q.caller
+
 -- THE FLUSHES OF A COMMIT ARE ENTERED
 pub record EntersFlushes (old new : QueueState) (list : List Piece) : Type 0 where
   pub rest : new ≡ record old { callers = new.callers }

@@ -1,6 +1,6 @@
 //! The pieces in flight.
 
-ghost use Rattle.std.specs.Prelude.{◌≡◌, ◌<◌, IfOk, None, Some, length, replicate, slice_get};
+ghost use Rattle.std.specs.Prelude.{◌≡◌, ◌<◌, IfOk, None, Some, length, replicate, slice_get, slice_set};
 ghost use Rattle.zd_steps.specs.Runs.{chunk_of, flies_in, is_flight_of, is_flight_on, is_held_in};
 
 use std::alloc::Global;
@@ -68,6 +68,15 @@ impl Flights {
         ensures { slice_get self.now.pieces.items actor ≡ Some result }
     {
         self.pieces[actor]
+    }
+
+    /// An actor has this in flight from now on.
+    pub(crate) fn set(&mut self, actor: usize, piece: Option<Piece>)
+        requires { actor < length self.old.pieces.items }
+        ensures blocks { self.new.chunk_blocks ≡ self.old.chunk_blocks }
+        ensures pieces { self.new.pieces.items ≡ slice_set self.old.pieces.items actor piece }
+    {
+        self.pieces[actor] = piece;
     }
 
     /// Whether a piece is in flight on the chunk of this one.

@@ -1,10 +1,10 @@
 //! The first piece of each caller that isn't entered.
 
 ghost use Rattle.std.specs.Prelude.{◌≡◌, ◌≢◌, ℕ, ◌+◌, ◌<◌, ◌≤◌, ◌^◌, ◌++◌, ◌∷◌, [], Bool, List, Some, IfOk};
-ghost use Rattle.std.specs.Prelude.{Contains, Decides, length, option_copied, replicate, slice_get};
+ghost use Rattle.std.specs.Prelude.{Contains, Decides, length, map, option_copied, replicate, slice_get};
 ghost use Rattle.zd_model.specs.History.{Mark, mark_of_piece};
 ghost use Rattle.zd_model.specs.declared.requests.Piece.{Piece};
-ghost use Rattle.zd_steps.specs.Queues.{AreLinkedFrom, HasEntered, HaveCallersBelow, IsLeast, first_of, head_of};
+ghost use Rattle.zd_steps.specs.Queues.{AreFirsts, AreHeads, AreLinkedFrom, HasEntered, HaveCallersBelow, IsLeast, first_of, head_of};
 
 use std::alloc::Global;
 use std::marker::Model;
@@ -77,6 +77,7 @@ impl Heads {
     pub(crate) fn new(alloc: Global, pieces: Vec<Piece>) -> Result<Heads, Memory>
         requires { HaveCallersBelow 64 pieces.items }
         ensures pieces { IfOk result (λ h. h.pieces ≡ pieces.items) }
+        ensures heads { IfOk result (λ h. AreHeads h.pieces h.heads) }
         ensures none { IfOk result (λ h. HasEntered h []) }
     {
         let count = pieces.len();
@@ -124,6 +125,7 @@ impl Heads {
         requires known { caller < 64 }
         requires some { head_of self.old caller < length self.old.pieces }
         ensures pieces { self.new.pieces ≡ self.old.pieces }
+        ensures heads { AreHeads self.new.pieces self.new.heads }
         ensures others { (c : ℕ) → c ≢ caller → first_of self.new c ≡ first_of self.old c }
         ensures entered { (entered : List Mark) (p : Piece) → HasEntered self.old entered →
             first_of self.old caller ≡ Some p → HasEntered self.new (entered ++ mark_of_piece p ∷ []) }
@@ -132,10 +134,27 @@ impl Heads {
         self.heads[caller] = self.links[self.heads[caller]];
     }
 
+    /// The first pieces of these callers are entered.
+    pub(crate) fn enter_all(&mut self, list: &[Piece])
+        requires heads { AreHeads self.old.pieces self.old.heads }
+        requires firsts { AreFirsts self.old list.now }
+        ensures pieces { self.new.pieces ≡ self.old.pieces }
+        ensures heads { AreHeads self.new.pieces self.new.heads }
+        ensures others { (c : ℕ) → ((k : ℕ) (p : Piece) → slice_get list.now k ≡ Some p → p.caller ≢ c) →
+            first_of self.new c ≡ first_of self.old c }
+        ensures entered { (entered : List Mark) → HasEntered self.old entered →
+            HasEntered self.new (entered ++ map mark_of_piece list.now) }
+    {
+        for piece in list {
+            self.enter(piece.caller);
+        }
+    }
+
     /// The place, from one on, of the least head whose piece passes; the count of pieces where none does.
     pub(crate) fn least<T: PieceTest>(&self, test: &T, from: usize) -> usize
         requires { (p : Piece) → Contains self.now.pieces p → T.takes test.now p }
-        ensures { IsLeast self.now (T.test test.now) from result }
+        ensures least { IsLeast self.now (T.test test.now) from result }
+        ensures count { length self.now.pieces < 2 ^ 64 }
     {
         let mut least = self.pieces.len();
         for head in self.heads {

@@ -1,7 +1,7 @@
 //! The pieces of all callers on their way, and the choice of the next step.
 
-ghost use Rattle.std.specs.Prelude.{◌≡◌, ◌⊎◌, ◌||◌, ◌<◌, ◌≤◌, ◌++◌, ◌∷◌, [], ℕ, List, true, false, None, Some, Option};
-ghost use Rattle.std.specs.Prelude.{Contains, IfOk, IfSome, length, replicate, slice_set, vec_capacity};
+ghost use Rattle.std.specs.Prelude.{◌≡◌, ◌+◌, ◌||◌, ◌<◌, ◌≤◌, ◌++◌, ◌∷◌, [], ℕ, List, true, false, None, Some, Option};
+ghost use Rattle.std.specs.Prelude.{Contains, IfOk, IfSome, length, replicate, slice_set, vec_capacity, vec_len};
 ghost use Rattle.zd_model.specs.History.{Mark};
 ghost use Rattle.zd_model.specs.declared.requests.Piece.{Piece};
 ghost use Rattle.zd_steps.specs.Runs.{eligible_flushes, flight_of, has_flush, is_over, is_ready, is_wanted, reads, writes};
@@ -38,6 +38,19 @@ impl Model for Queue {
     } };
 
     ghost invariant = { λ q. IsQueue q.heads q.flights.pieces.items };
+}
+
+/// Appends a piece where there is room.
+fn add(list: &mut Vec<Piece>, piece: Piece)
+    requires { vec_len list.old < vec_capacity list.old }
+    ensures items { list.new.items ≡ list.old.items ++ piece ∷ [] }
+    ensures count { vec_len list.new ≡ vec_len list.old + 1 }
+    ensures room { vec_capacity list.old ≤ vec_capacity list.new }
+{
+    match list.push(piece) {
+        Ok(()) => {}
+        Err(_) => unreachable!(),
+    }
 }
 
 impl Queue {
@@ -194,5 +207,51 @@ impl Queue {
             return None;
         }
         self.by_preference(volume, actor, prefer)
+    }
+
+    /// The flushes that a commit enters, in the order of the script, in a list with room for one a caller.
+    pub fn flushes(&self, list: &mut Vec<Piece>)
+        requires room { 64 ≤ vec_capacity list.old }
+        ensures list { (entered : List Mark) → HasEntered self.now.callers entered →
+            list.new.items ≡ eligible_flushes (run_of self.now entered) }
+        ensures room { 64 ≤ vec_capacity list.new }
+    {
+        list.clear();
+        let mut place = self.heads.least(&Flushing, 0);
+        while let Some(piece) = self.heads.at(place) {
+            add(list, *piece);
+            place = self.heads.least(&Flushing, place + 1);
+        }
+    }
+
+    /// A piece that an actor served is entered.
+    pub fn enter(&mut self, actor: usize, piece: &Piece)
+        requires actor { actor < length self.old.flights }
+        requires served { MayServe self.old actor piece.now }
+        ensures { EntersPiece self.old self.new actor piece.now }
+    {
+        self.heads.enter(piece.caller);
+        self.flights.set(actor, None);
+    }
+
+    /// A piece that an actor served is in flight with it: a read of which runs are left, or a write that has
+    /// read an edge.
+    pub fn fly(&mut self, actor: usize, piece: &Piece)
+        requires actor { actor < length self.old.flights }
+        requires served { MayServe self.old actor piece.now }
+        requires in_range { piece.now.range ≡ false }
+        requires moves { (reads piece.now || writes piece.now) ≡ true }
+        ensures { self.new ≡ record self.old { flights = slice_set self.old.flights actor (Some piece.now) } }
+    {
+        self.flights.set(actor, Some(*piece));
+    }
+
+    /// The flushes that a commit enters are entered.
+    pub fn enter_flushes(&mut self, list: &[Piece])
+        requires { (entered : List Mark) × HasEntered self.old.callers entered
+            × (list.now ≡ eligible_flushes (run_of self.old entered)) }
+        ensures { EntersFlushes self.old self.new list.now }
+    {
+        self.heads.enter_all(list);
     }
 }

@@ -4,6 +4,17 @@ use Rattle.zd_steps.proofs.LinkLaws.{heads_on, link_read}
 use Rattle.zd_steps.proofs.EnterLaws.{one_entered}
 use Rattle.zd_steps.proofs.heads.Heads.enter.Goals as goal
 
+pub returns-clause-heads : goal.returns-clause-heads
+returns-clause-heads c =
+    let is = c.from-caller.ensures in
+    let below = c.requires.known in
+    let known : c.from-caller.result < 64 = omega (arith, is, below) in
+    let some = subst (λ (v : Callers). head_of v c.args.caller < length v.pieces) (sym c.self.view_is) c.requires.some in
+    let inside = subst (λ n. head_in c.self.inside.pieces.items c.self.inside.heads n < length c.self.inside.pieces.items) (sym is) some in
+    heads_on c.self.inside.pieces.items c.self.inside.heads c.from-caller.result c.index.result.now c.self.invariant.2 known
+    (link_read c.self.inside.pieces.items c.self.inside.links.items c.self.inside.heads c.from-caller.result
+    (get_or c.self.inside.heads c.from-caller.result 0) c.index.result.now c.self.invariant.1 c.self.invariant.2 known refl inside c.index.ensures)
+
 pub invariant_of-self : goal.invariant_of-self
 invariant_of-self c =
     let is = c.from-caller.ensures in

@@ -14,4 +14,4 @@ returns c =
     } in
     subst (λ (s : QueueState). (entered : List Mark) → HasEntered s.callers entered
         → ltb c.least.result c.count.result ≡ has_flush (run_of s entered)) c.self.view_is
-    (λ entered before. ap (ltb c.least.result) c.count.ensures ∙ flush_is q c.self.invariant entered before c.least.result c.least.ensures)
+    (λ entered before. ap (ltb c.least.result) c.count.ensures ∙ flush_is q c.self.invariant entered before c.least.result c.least.ensures.least)

@@ -15,4 +15,4 @@ returns g c =
     subst (λ (s : QueueState). (entered : List Mark) → HasEntered s.callers entered
         → ltb c.least.result c.count.result ≡ is_wanted (run_of s entered) (g.V.HasStanding.standing c.args.volume.now)) c.self.view_is
     (λ entered before. ap (ltb c.least.result) c.count.ensures
-    ∙ wanted_is q c.self.invariant entered before (g.V.HasStanding.standing c.args.volume.now) c.least.result c.least.ensures)
+    ∙ wanted_is q c.self.invariant entered before (g.V.HasStanding.standing c.args.volume.now) c.least.result c.least.ensures.least)

@@ -52,7 +52,7 @@ returns-in-Some-at g c entered before =
     subst (λ (s : QueueState). HasEntered s.callers entered → Some (Serve c.in-Some-at.piece.now) ≡ piece_step (run_of s entered) v (flight_of (run_of s entered) c.args.actor))
     c.self.view_is
     (λ b. first_found (run_of q entered) v c.args.actor (Some c.in-Some-at.piece.now) (c.of.ensures ∙ ap Some c.in_default.is)
-    (c.in-Some-at.ensures ∙ sym (servable_is q c.self.invariant entered b v c.least-place.result c.least-place.ensures))) before
+    (c.in-Some-at.ensures ∙ sym (servable_is q c.self.invariant entered b v c.least-place.result c.least-place.ensures.least))) before
 
 pub returns-in-None : goal.returns-in-None
 returns-in-None g c entered before =
@@ -65,4 +65,4 @@ returns-in-None g c entered before =
     subst (λ (s : QueueState). HasEntered s.callers entered → None ≡ piece_step (run_of s entered) v (flight_of (run_of s entered) c.args.actor))
     c.self.view_is
     (λ b. first_found (run_of q entered) v c.args.actor None (c.of.ensures ∙ ap Some c.in_default.is)
-    (c.in-None.ensures ∙ sym (servable_is q c.self.invariant entered b v c.least-place.result c.least-place.ensures))) before
+    (c.in-None.ensures ∙ sym (servable_is q c.self.invariant entered b v c.least-place.result c.least-place.ensures.least))) before
