@@ -3,7 +3,7 @@
 use Rattle.std.proofs.Common.{◌≡◌, ℕ, zero, suc, ◌<◌, Bool, true, false, cond, ◌&&◌, ◌||◌, not, eqb, List, [], ◌∷◌}
 use Rattle.std.proofs.Common.{length, get_or, filter, find, slice_get, Option, Some, None, refl, sym, ap, ◌∙◌, inl, inr, subst, arith}
 use Rattle.std.specs.List.{list_any}
-use Rattle.std.proofs.lemmas.Bool.{false≢true, and_parts, and_from, cases_lt, eq-eqb, not-true, cases_Bool, cond-true, cond-false}
+use Rattle.std.proofs.lemmas.Bool.{false≢true, and_parts, and_from, or_from, cases_lt, eq-eqb, not-true, cases_Bool, cond-true, cond-false}
 use Rattle.std.proofs.lemmas.Option.{cond_some, none-some, same_Some, slice_get-get_or, get_or_from_slice_get}
 use Rattle.std.proofs.lemmas.List.{get_or_past}
 use Rattle.zd_base.specs.declared.steps.Prefer.{Prefer}
@@ -15,10 +15,10 @@ use Rattle.zd_steps.specs.NextStep.{by_preference, commit_step, first_serve, is_
 use Rattle.zd_steps.specs.NextStep.{next_step, or_else, piece_step}
 use Rattle.zd_steps.specs.Queues.{HasEntered, IsQueue, MayServe, QueueState, first_of, run_of}
 use Rattle.zd_steps.specs.Runs.{Run, Standing, flies, flight_of, has_flush, holds_back, is_eligible, is_entered}
-use Rattle.zd_steps.specs.Runs.{is_flight_of, is_held, is_over, is_ready, is_servable, is_wanted}
+use Rattle.zd_steps.specs.Runs.{chunk_of, is_flight_of, is_flight_on, is_held, is_over, is_ready, is_servable, is_wanted}
 use Rattle.zd_steps.specs.declared.step.Step.{Step}
 use Rattle.zd_steps.specs.declared.step.Step.TheVariants.{Serve, Commit, Begin, Work}
-use Rattle.zd_steps.proofs.EligibleLaws.{eligible_first}
+use Rattle.zd_steps.proofs.EligibleLaws.{eligible_first, same_chunk}
 use Rattle.zd_steps.proofs.MemberLaws.{in-any, place-in}
 
 -- what is found stands somewhere, and passes
@@ -84,6 +84,14 @@ module _ (r : Run) (v : Standing) where
             (sym (cond-false (v.stopped || is_over r) None steps goes) ∙ e)
       ]
 
+  -- what the classes give is the next step, where the volume runs and pieces are left
+  pub next_goes : (actor : ℕ) (prefer : Prefer) (o : Option Step) → v.stopped ≡ false → is_over r ≡ false
+      → o ≡ by_preference r v prefer (piece_step r v (flight_of r actor)) (commit_step r v) (job_step r v v.job)
+      → next_step r v actor prefer ≡ o
+  next_goes actor prefer o runs left is =
+      cond-false (v.stopped || is_over r) None (by_preference r v prefer (piece_step r v (flight_of r actor)) (commit_step r v) (job_step r v v.job))
+      (or_from v.stopped (is_over r) runs left) ∙ sym is
+
   found_first : (o : Option Piece) (p : Piece) → first_serve r v o ≡ Some (Serve p) → o ≡ Some p
   found_first None p e = absurd (none-some (Serve p) e)
   found_first (Some x) p e = ap Some (same_serve x p (same_Some (Serve x) (Serve p) e))
@@ -104,7 +112,7 @@ module _ (r : Run) (v : Standing) where
   first_found actor o at is =
       ap (first_serve r v) is ∙ sym (ap (piece_step r v) (get_or_from_slice_get r.flights actor None None at))
 
-module _ (q : QueueState) (is : IsQueue q.callers q.flights) (entered : List Mark) (before : HasEntered q.callers entered) (v : Standing) where
+module _ (q : QueueState) (is : IsQueue q.chunk_blocks q.callers q.flights) (entered : List Mark) (before : HasEntered q.callers entered) (v : Standing) where
   abbrev r : Run
   r = run_of q entered
 
@@ -119,11 +127,13 @@ module _ (q : QueueState) (is : IsQueue q.callers q.flights) (entered : List Mar
       let two = and_parts (not (is_entered r p)) (not (flies r p)) three.0 in
       record {
         first = first;
-        alone = λ a f at_a same. (
-            let old = is.flying.each a f at_a in
-            let one : f ≡ p = same_Some f p (sym old.first ∙ ap (first_of q.callers) same ∙ first) in
+        caller = λ a f at_a same. (
+            let one : f ≡ p = same_Some f p (sym (is.flying.each a f at_a).first ∙ ap (first_of q.callers) same ∙ first) in
             absurd (false≢true (sym (not-true (flies r p) two.1) ∙ in-any (is_flight_of p) (Some f) q.flights (place-in (Some f) q.flights a at_a)
             (and_from (eqb f.request p.request) (eqb f.piece p.piece) (eq-eqb f.request p.request (ap (λ u. u.request) one)) (eq-eqb f.piece p.piece (ap (λ u. u.piece) one))))));
+        chunk = λ a c f at_a on_f on_p. absurd (false≢true (sym (not-true (is_held r p) all.1)
+            ∙ in-any (is_flight_on q.chunk_blocks (chunk_of q.chunk_blocks p)) (Some f) q.flights (place-in (Some f) q.flights a at_a)
+            (same_chunk (chunk_of q.chunk_blocks p) (chunk_of q.chunk_blocks f) c on_p on_f)));
         only = λ f at_f. absurd (none-some f (same_Some None (Some f) (sym free ∙ at_f)));
       }
 
@@ -131,7 +141,8 @@ module _ (q : QueueState) (is : IsQueue q.callers q.flights) (entered : List Mar
   flight_serves : (actor : ℕ) (p : Piece) → slice_get q.flights actor ≡ Some (Some p) → MayServe q actor p
   flight_serves actor p at = record {
     first = (is.flying.each actor p at).first;
-    alone = λ a f at_a same. is.flying.apart a actor f p at_a at same;
+    caller = λ a f at_a same. is.flying.callers a actor f p at_a at same;
+    chunk = λ a c f at_a on_f on_p. is.flying.chunks a actor c f p at_a at on_f on_p;
     only = λ f at_f. same_Some f p (same_Some (Some f) (Some p) (sym at_f ∙ at));
   }
 

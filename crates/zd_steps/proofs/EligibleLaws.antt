@@ -66,7 +66,8 @@ pub on_chunk : (z : ℕ) (h : Callers) (p : Piece) → IsInFlight h p → chunk_
 on_chunk z h p flying = cond-false (flushes p || p.range) None (Some (first_block p.what / z))
     (or_from (flushes p) p.range (no_flush (operation_of p.what) flying.moves) flying.in_range)
 
-same_chunk : (c d : Option ℕ) (n : ℕ) → c ≡ Some n → d ≡ Some n → is_same_chunk c d ≡ true
+-- two that stand on one chunk
+pub same_chunk : (c d : Option ℕ) (n : ℕ) → c ≡ Some n → d ≡ Some n → is_same_chunk c d ≡ true
 same_chunk (Some a) (Some b) n e f = eq-eqb a b (same_Some a n e ∙ sym (same_Some b n f))
 same_chunk None d n e f = absurd (none-some n e)
 same_chunk (Some a) None n e f = absurd (none-some n f)
@@ -94,7 +95,7 @@ flush_free z flights p f =
 four_true : (a b c d : Bool) → a ≡ false → b ≡ false → c ≡ false → (not a && not b && not c && d) ≡ d
 four_true a b c d e f g = rw (e, f, g) refl
 
-module _ (q : QueueState) (is : IsQueue q.callers q.flights) (entered : List Mark) (before : HasEntered q.callers entered) where
+module _ (q : QueueState) (is : IsQueue q.chunk_blocks q.callers q.flights) (entered : List Mark) (before : HasEntered q.callers entered) where
   abbrev h : Callers
   h = q.callers
 

@@ -72,7 +72,7 @@ abbrev pub IsGathered : QueueState → List Mark → List Piece → ℕ → Type
 IsGathered q entered items from = items ++ filter (is_eligible_flush (run_of q entered)) (drop from q.callers.pieces)
     ≡ eligible_flushes (run_of q entered)
 
-module _ (q : QueueState) (is : IsQueue q.callers q.flights) (entered : List Mark) (before : HasEntered q.callers entered) where
+module _ (q : QueueState) (is : IsQueue q.chunk_blocks q.callers q.flights) (entered : List Mark) (before : HasEntered q.callers entered) where
   abbrev test : Piece → Bool
   test = is_eligible_flush (run_of q entered)
 
@@ -134,7 +134,7 @@ kept_order {X} test (w ∷ ws) j k x y l e f = elim (cases_Bool (test w)) [
         let rest = later j k (omega (arith, l)) e f in
         let low = rest.2 in (suc rest.0, suc rest.1, omega (arith, low), rest.3, rest.4)
 
-module _ (q : QueueState) (is : IsQueue q.callers q.flights) (entered : List Mark) (before : HasEntered q.callers entered) where
+module _ (q : QueueState) (is : IsQueue q.chunk_blocks q.callers q.flights) (entered : List Mark) (before : HasEntered q.callers entered) where
   eligible_head : (i : ℕ) (p : Piece) → slice_get q.callers.pieces i ≡ Some p → is_eligible_flush (run_of q entered) p ≡ true
       → first_of q.callers p.caller ≡ Some p
   eligible_head i p at e =

@@ -26,7 +26,7 @@ all_from : {X : Type 0} (test : X → Bool) (xs : List X) → ((i : ℕ) (x : X)
 all_from test [] h = refl
 all_from test (y ∷ ys) h = and_from (test y) (list_all test ys) (h 0 y refl) (all_from test ys (λ i x at. h (suc i) x at))
 
-module _ (q : QueueState) (is : IsQueue q.callers q.flights) (entered : List Mark) (before : HasEntered q.callers entered) where
+module _ (q : QueueState) (is : IsQueue q.chunk_blocks q.callers q.flights) (entered : List Mark) (before : HasEntered q.callers entered) where
   abbrev h : Callers
   h = q.callers
 

@@ -3,7 +3,7 @@ use Rattle.std.specs.Prelude.{◌≡◌, ◌≢◌, ◌⊎◌, ℕ, ◌+◌, ◌
 use Rattle.std.specs.Prelude.{slice_get, slice_index, slice_set, ◌++◌, ◌∷◌, [], Option, Some, None}
 use Rattle.zd_model.specs.History.{Mark, mark_of_piece, marks_of_caller}
 use Rattle.zd_model.specs.declared.requests.Piece.{Piece}
-use Rattle.zd_steps.specs.Runs.{Run, Standing, flies_in, flushes, is_held_in, is_ready, lacks_zone, reads, writes}
+use Rattle.zd_steps.specs.Runs.{Run, Standing, chunk_of, flies_in, flushes, is_held_in, is_ready, lacks_zone, reads, writes}
 
 -- p stands before q in the script
 abbrev pub Precedes : Piece → Piece → Type 0
@@ -75,11 +75,13 @@ pub record IsInFlight (h : Callers) (p : Piece) : Type 0 where
   pub in_range : p.range ≡ false
   pub moves : (reads p || writes p) ≡ true
 
--- of each actor one piece at most is in flight, and of each caller too
-pub record AreFlights (h : Callers) (flights : List (Option Piece)) : Type 0 where
+-- what is in flight: of each actor one piece at most, and no two of one caller or on one chunk
+pub record AreFlights (z : ℕ) (h : Callers) (flights : List (Option Piece)) : Type 0 where
   pub each : (actor : ℕ) (p : Piece) → slice_get flights actor ≡ Some (Some p) → IsInFlight h p
-  pub apart : (a b : ℕ) (p q : Piece) → slice_get flights a ≡ Some (Some p)
+  pub callers : (a b : ℕ) (p q : Piece) → slice_get flights a ≡ Some (Some p)
       → slice_get flights b ≡ Some (Some q) → p.caller ≡ q.caller → a ≡ b
+  pub chunks : (a b c : ℕ) (p q : Piece) → slice_get flights a ≡ Some (Some p)
+      → slice_get flights b ≡ Some (Some q) → chunk_of z p ≡ Some c → chunk_of z q ≡ Some c → a ≡ b
 
 -- what contracts see of a queue
 pub record QueueState : Type 0 where
@@ -88,10 +90,10 @@ pub record QueueState : Type 0 where
   pub flights : List (Option Piece)
 
 -- what is always true of one
-pub record IsQueue (h : Callers) (flights : List (Option Piece)) : Type 0 where
+pub record IsQueue (z : ℕ) (h : Callers) (flights : List (Option Piece)) : Type 0 where
   pub script : IsScriptOf 64 h.pieces
   pub heads : AreHeads h.pieces h.heads
-  pub flying : AreFlights h flights
+  pub flying : AreFlights z h flights
 
 -- the run in which these are entered
 abbrev pub run_of : QueueState → List Mark → Run
@@ -102,11 +104,13 @@ run_of q entered = record {
   flights = q.flights;
 }
 
--- an actor may serve this piece: it is its caller's first, no other actor has it in flight, and this one has
--- nothing else
+-- an actor may serve this piece: it is its caller's first, no other actor has a piece of this caller or on this
+-- chunk in flight, and this one has nothing else
 pub record MayServe (q : QueueState) (actor : ℕ) (p : Piece) : Type 0 where
   pub first : first_of q.callers p.caller ≡ Some p
-  pub alone : (a : ℕ) (f : Piece) → slice_get q.flights a ≡ Some (Some f) → f.caller ≡ p.caller → a ≡ actor
+  pub caller : (a : ℕ) (f : Piece) → slice_get q.flights a ≡ Some (Some f) → f.caller ≡ p.caller → a ≡ actor
+  pub chunk : (a c : ℕ) (f : Piece) → slice_get q.flights a ≡ Some (Some f) → chunk_of q.chunk_blocks f ≡ Some c
+      → chunk_of q.chunk_blocks p ≡ Some c → a ≡ actor
   pub only : (f : Piece) → slice_get q.flights actor ≡ Some (Some f) → f ≡ p
 
 -- A PIECE IS ENTERED: its caller goes on to its next piece, and the actor has nothing in flight

@@ -37,7 +37,7 @@ impl Model for Queue {
       flights = q.flights.pieces.items;
     } };
 
-    ghost invariant = { λ q. IsQueue q.heads q.flights.pieces.items };
+    ghost invariant = { λ q. IsQueue q.flights.chunk_blocks q.heads q.flights.pieces.items };
 }
 
 /// Appends a piece where there is room.

@@ -1,7 +1,7 @@
 use Rattle.std.proofs.Common.{◌≡◌, List, Option, None, set, sym, subst}
 use Rattle.zd_model.specs.declared.requests.Piece.{Piece}
 use Rattle.zd_steps.specs.Queues.{AreFlights, MayServe, QueueState}
-use Rattle.zd_steps.proofs.KeptLaws.{entered_fly, same_script}
+use Rattle.zd_steps.proofs.KeptLaws.{entered_fly, same_flights, same_script}
 use Rattle.zd_steps.proofs.queue.Queue.enter.Goals as goal
 
 pub invariant_of-self : goal.invariant_of-self
@@ -14,7 +14,8 @@ invariant_of-self c =
     record {
       script = same_script c.self.inside.heads.pieces c.enter.new.self.pieces c.enter.ensures.pieces c.self.invariant.script;
       heads = c.enter.ensures.heads;
-      flying = subst (λ (fs : List (Option Piece)). AreFlights c.enter.new.self fs) (sym c.set.ensures.pieces)
+      flying = same_flights c.enter.new.self c.self.inside.flights.chunk_blocks c.set.new.self.chunk_blocks
+          (set c.self.inside.flights.pieces.items c.args.actor None) c.set.new.self.pieces.items c.set.ensures.blocks c.set.ensures.pieces
           (entered_fly q c.self.invariant.flying c.args.actor c.args.piece.now
           (subst (λ (s : QueueState). MayServe s c.args.actor c.args.piece.now) (sym c.self.view_is) c.requires.served)
           c.enter.new.self c.enter.ensures.others);

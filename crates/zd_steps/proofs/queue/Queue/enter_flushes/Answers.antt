@@ -30,7 +30,7 @@ invariant_of-self c =
     record {
       script = same_script c.self.inside.heads.pieces c.enter_all.new.self.pieces c.enter_all.ensures.pieces c.self.invariant.script;
       heads = c.enter_all.ensures.heads;
-      flying = committed_fly c.self.inside.heads c.self.inside.flights.pieces.items c.args.list.now c.self.invariant.flying
+      flying = committed_fly c.self.inside.flights.chunk_blocks c.self.inside.heads c.self.inside.flights.pieces.items c.args.list.now c.self.invariant.flying
           (subst (λ (ps : List Piece). AreFirsts c.self.inside.heads ps) (sym known.2) (flush_firsts q c.self.invariant known.0 known.1))
           (subst (λ (ps : List Piece). (k : ℕ) (p : Piece) → slice_get ps k ≡ Some p → flushes p ≡ true) (sym known.2) (flush_all q c.self.invariant known.0 known.1))
           c.enter_all.new.self c.enter_all.ensures.others;
