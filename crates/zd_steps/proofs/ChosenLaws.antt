@@ -1,7 +1,7 @@
 -- What the choice of a step tells of it: a piece that is served is its caller's first, ready, and in flight with no
 -- other actor; and the flushes of a commit are the first pieces of different callers.
-use Rattle.std.proofs.Common.{◌≡◌, ℕ, zero, suc, ◌<◌, Bool, true, false, cond, ◌&&◌, ◌||◌, not, eqb, List, [], ◌∷◌}
-use Rattle.std.proofs.Common.{length, get_or, filter, find, slice_get, Option, Some, None, refl, sym, ap, ◌∙◌, inl, inr, subst, arith}
+use Rattle.std.proofs.Common.{◌≡◌, ℕ, suc, ◌<◌, Bool, true, false, cond, ◌&&◌, ◌||◌, not, eqb, List, [], ◌∷◌}
+use Rattle.std.proofs.Common.{length, get_or, find, slice_get, Option, Some, None, refl, sym, ap, ◌∙◌, inl, inr}
 use Rattle.std.specs.List.{list_any}
 use Rattle.std.proofs.lemmas.Bool.{false≢true, and_parts, and_from, or_from, cases_lt, eq-eqb, not-true, cases_Bool, cond-true, cond-false}
 use Rattle.std.proofs.lemmas.Option.{cond_some, none-some, same_Some, slice_get-get_or, get_or_from_slice_get}

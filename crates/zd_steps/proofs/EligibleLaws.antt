@@ -1,6 +1,6 @@
 -- Which pieces are eligible: the first ones of their callers on whose chunk no piece is in flight.
 use Rattle.std.proofs.Common.{◌≡◌, ℕ, ◌/◌, ◌<◌, Bool, true, false, ◌&&◌, ◌||◌, not, eqb, ltb, List, get_or, slice_get}
-use Rattle.std.proofs.Common.{length, Option, Some, None, refl, sym, ap, ◌∙◌, inl, inr, subst, arith}
+use Rattle.std.proofs.Common.{Option, Some, None, refl, sym, ap, ◌∙◌, inl, inr, subst, arith}
 use Rattle.std.specs.List.{list_any}
 use Rattle.std.proofs.lemmas.Bool.{and_parts, and_from, and_right, or_left, or_right, or_cases, or_from, not-true}
 use Rattle.std.proofs.lemmas.Bool.{not_from_false, not_from_true, false_from_ne_true, eqb-true, eq-eqb}
@@ -12,9 +12,9 @@ use Rattle.zd_model.specs.Requests.Operation.{Reading, Writing, Discarding, Flus
 use Rattle.zd_model.specs.declared.requests.Piece.{Piece}
 use Rattle.zd_steps.specs.Runs.{Run, chunk_of, flies, flies_in, flushes, holds_back, is_before, is_eligible}
 use Rattle.zd_steps.specs.Runs.{is_entered, is_flight_of, is_flight_on, is_flushing, is_held, is_held_in, is_reading}
-use Rattle.zd_steps.specs.Runs.{is_same_chunk, is_writing, reads, writes}
-use Rattle.zd_steps.specs.Queues.{AreFlights, AreHeads, AreInOrder, Callers, HasEntered, IsInFlight, IsQueue, Precedes}
-use Rattle.zd_steps.specs.Queues.{QueueState, first_of, head_of, run_of}
+use Rattle.zd_steps.specs.Runs.{is_same_chunk, is_writing}
+use Rattle.zd_steps.specs.Queues.{AreInOrder, Callers, HasEntered, IsInFlight, IsQueue, Precedes}
+use Rattle.zd_steps.specs.Queues.{QueueState, head_of, run_of}
 use Rattle.zd_steps.proofs.EnteredLaws.{entered_decides, same_place}
 use Rattle.zd_steps.proofs.MemberLaws.{In, any-in, in-any, in-place, place-in}
 
@@ -112,7 +112,7 @@ module _ (q : QueueState) (is : IsQueue q.chunk_blocks q.callers q.flights) (ent
         let flying = is.flying.each place.0 x place.1 in
         let numbers = and_parts (eqb x.request p.request) (eqb x.piece p.piece) e in
         let same = same_place h.pieces is.script.order i (head_of h x.caller) p x at flying.first
-            (sym (eqb-true x.request p.request numbers.0)) (sym (eqb-true x.piece p.piece numbers.1)) in
+        (sym (eqb-true x.request p.request numbers.0)) (sym (eqb-true x.piece p.piece numbers.1)) in
         let one : p ≡ x = same_Some p x (sym at ∙ ap (slice_get h.pieces) same ∙ flying.first) in (
           same ∙ ap (λ y. head_of h y.caller) (sym one),
           in-any (is_flight_on q.chunk_blocks (chunk_of q.chunk_blocks p)) (Some x) q.flights there
@@ -137,7 +137,7 @@ module _ (q : QueueState) (is : IsQueue q.chunk_blocks q.callers q.flights) (ent
         let level : head_of h x.caller ≡ k = ap (head_of h) caller in
         let out : is_entered r x ≡ false = false_from_ne_true (is_entered r x) (λ e. let low = decides.0 e in omega (arith, low, level)) in
         let first : (eqb x.caller p.caller && is_before p x) ≡ true =
-            and_from (eqb x.caller p.caller) (is_before p x) (eq-eqb x.caller p.caller caller) (before_from p x (is.script.order k i x p high at_k at)) in
+        and_from (eqb x.caller p.caller) (is_before p x) (eq-eqb x.caller p.caller caller) (before_from p x (is.script.order k i x p high at_k at)) in
         in-any (holds_back r p) x h.pieces (place-in x h.pieces k at_k)
         (and_from (eqb x.caller p.caller && is_before p x) (not (is_entered r x)) first (not_from_false (is_entered r x) out))
 

@@ -1,6 +1,6 @@
 -- What is entered of each caller, as its first piece is entered; and the order that a history keeps by that.
 use Rattle.std.proofs.Common.{◌≡◌, ◌≢◌, ℕ, zero, suc, ◌+◌, ◌-◌, ◌<◌, ◌≤◌, Bool, cond, List, [], ◌∷◌, ◌++◌, length}
-use Rattle.std.proofs.Common.{map, take, drop, set, get_or, slice_get, Some, refl, sym, ap, ◌∙◌, arith}
+use Rattle.std.proofs.Common.{map, take, drop, set, get_or, slice_get, Some, sym, ap, ◌∙◌, arith}
 use Rattle.std.proofs.lemmas.Bool.{eq-eqb, ne_eqb}
 use Rattle.std.proofs.lemmas.List.{append-nil, map-append, map_more, take-append-drop}
 use Rattle.std.proofs.lemmas.Option.{slice_get_within, get_or_from_slice_get, slice_get-get_or}
@@ -9,7 +9,7 @@ use Rattle.zd_model.specs.Pieces.{pieces_of}
 use Rattle.zd_model.specs.declared.requests.Piece.{Piece}
 use Rattle.zd_model.specs.declared.requests.Request.{Request}
 use Rattle.zd_model.proofs.OrderLaws.{marks-append}
-use Rattle.zd_steps.specs.Queues.{AreHeads, AreLinkedFrom, Callers, HasEntered, IsFirstFrom, head_in}
+use Rattle.zd_steps.specs.Queues.{AreLinkedFrom, Callers, HasEntered, IsFirstFrom, head_in}
 use Rattle.zd_steps.proofs.LinkLaws.{nobody, one_set}
 
 -- the marks of a caller among the first n pieces

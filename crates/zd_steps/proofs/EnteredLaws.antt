@@ -1,5 +1,5 @@
 -- A piece is entered exactly where it stands before its caller's head.
-use Rattle.std.proofs.Common.{◌≡◌, ℕ, ◌<◌, Bool, true, eqb, cond, List, [], ◌∷◌, map, take, filter, slice_get, Some}
+use Rattle.std.proofs.Common.{◌≡◌, ℕ, ◌<◌, true, eqb, List, map, take, slice_get, Some}
 use Rattle.std.proofs.Common.{Decides, refl, sym, ap, ◌∙◌, inl, inr, subst, arith}
 use Rattle.std.specs.List.{list_any}
 use Rattle.std.proofs.lemmas.Bool.{and_parts, and_from, eqb-true, eq-eqb, cases_order}
@@ -33,14 +33,14 @@ module _ (h : Callers) (entered : List Mark) (order : AreInOrder h.pieces) (befo
       let m : Mark = found.0 in
       let numbers = and_parts (eqb m.request p.request) (eqb m.piece p.piece) found.2 in
       let mine : In m (marks_of_caller m.caller entered) =
-          filter-in (λ n. eqb n.caller m.caller) m entered found.1 (eq-eqb m.caller m.caller refl) in
+      filter-in (λ n. eqb n.caller m.caller) m entered found.1 (eq-eqb m.caller m.caller refl) in
       let front = in-filter (λ n. eqb n.caller m.caller) m (map mark_of_piece (take (head_of h m.caller) h.pieces))
-          (subst (In m) (before m.caller) mine) in
+      (subst (In m) (before m.caller) mine) in
       let place = in-front mark_of_piece m (head_of h m.caller) h.pieces front.0 in
       let q : Piece = place.1 in
       let is : mark_of_piece q ≡ m = place.4 in
       let same : place.0 ≡ i = same_place h.pieces order place.0 i q p place.3 at
-          (ap (λ n. n.request) is ∙ eqb-true m.request p.request numbers.0) (ap (λ n. n.piece) is ∙ eqb-true m.piece p.piece numbers.1) in
+      (ap (λ n. n.request) is ∙ eqb-true m.request p.request numbers.0) (ap (λ n. n.piece) is ∙ eqb-true m.piece p.piece numbers.1) in
       let one : q ≡ p = same_Some q p (sym place.3 ∙ ap (slice_get h.pieces) same ∙ at) in
       let caller : m.caller ≡ p.caller = sym (ap (λ n. n.caller) is) ∙ ap (λ x. x.caller) one in
       subst (λ c. i < head_of h c) caller (subst (λ k. k < head_of h m.caller) same place.2)
@@ -49,9 +49,9 @@ module _ (h : Callers) (entered : List Mark) (order : AreInOrder h.pieces) (befo
   entered_from low =
       let front = front-in mark_of_piece (head_of h p.caller) i h.pieces p low at in
       let mine = filter-in (λ n. eqb n.caller p.caller) (mark_of_piece p) (map mark_of_piece (take (head_of h p.caller) h.pieces))
-          front (eq-eqb p.caller p.caller refl) in
+      front (eq-eqb p.caller p.caller refl) in
       let there = in-filter (λ n. eqb n.caller p.caller) (mark_of_piece p) entered
-          (subst (In (mark_of_piece p)) (sym (before p.caller)) mine) in
+      (subst (In (mark_of_piece p)) (sym (before p.caller)) mine) in
       in-any (is_mark_of p) (mark_of_piece p) entered there.0
       (and_from (eqb p.request p.request) (eqb p.piece p.piece) (eq-eqb p.request p.request refl) (eq-eqb p.piece p.piece refl))
 

@@ -1,8 +1,8 @@
 -- The flushes of a commit: as they are gathered one by one, at most one a caller; and that they are first pieces.
 use Rattle.std.proofs.Common.{◌≡◌, ℕ, zero, suc, ◌+◌, ◌<◌, ◌≤◌, Bool, true, false, cond, leb, List, [], ◌∷◌, ◌++◌, length}
-use Rattle.std.proofs.Common.{drop, filter, get_or, slice_get, Option, None, Some, refl, sym, ap, ◌∙◌, inl, inr, subst, arith}
+use Rattle.std.proofs.Common.{drop, filter, get_or, slice_get, None, Some, refl, sym, ap, ◌∙◌, inl, inr, subst, arith}
 use Rattle.std.proofs.lemmas.Bool.{and_parts, cases_Bool, cases_lt, cond-true, cond-false, false≢true, le-leb, leb-true, lt-leb}
-use Rattle.std.proofs.lemmas.List.{append_assoc, append-nil, get_or_default, get_or_past}
+use Rattle.std.proofs.lemmas.List.{append_assoc, append-nil, get_or_past}
 use Rattle.std.proofs.lemmas.Option.{none-some, same_Some, slice_get_within, slice_get-get_or}
 use Rattle.zd_model.specs.History.{Mark}
 use Rattle.zd_model.specs.declared.requests.Piece.{Piece}
@@ -119,8 +119,8 @@ kept_order {X} test (w ∷ ws) j k x y l e f = elim (cases_Bool (test w)) [
   | inl t ↦ first j k t l (ap (λ zs. slice_get zs j) (sym (cond-true (test w) (w ∷ filter test ws) (filter test ws) t)) ∙ e)
       (ap (λ zs. slice_get zs k) (sym (cond-true (test w) (w ∷ filter test ws) (filter test ws) t)) ∙ f) (λ m n. kept_order test ws m n x y)
   | inr n ↦ (let rest = kept_order test ws j k x y l
-          (ap (λ zs. slice_get zs j) (sym (cond-false (test w) (w ∷ filter test ws) (filter test ws) n)) ∙ e)
-          (ap (λ zs. slice_get zs k) (sym (cond-false (test w) (w ∷ filter test ws) (filter test ws) n)) ∙ f) in
+      (ap (λ zs. slice_get zs j) (sym (cond-false (test w) (w ∷ filter test ws) (filter test ws) n)) ∙ e)
+      (ap (λ zs. slice_get zs k) (sym (cond-false (test w) (w ∷ filter test ws) (filter test ws) n)) ∙ f) in
       let low = rest.2 in (suc rest.0, suc rest.1, omega (arith, low), rest.3, rest.4))
 ]
   where

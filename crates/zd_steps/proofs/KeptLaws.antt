@@ -1,6 +1,6 @@
 -- What is in flight stays the first pieces of different callers: as a piece is entered, as one goes on, and as a commit
 -- enters flushes.
-use Rattle.std.proofs.Common.{◌≡◌, ◌≢◌, ◌⊎◌, ℕ, zero, suc, Bool, true, false, ◌||◌, List, [], ◌∷◌, set, slice_get}
+use Rattle.std.proofs.Common.{◌≡◌, ◌≢◌, ◌⊎◌, ℕ, zero, suc, true, false, ◌||◌, List, [], ◌∷◌, set, slice_get}
 use Rattle.std.proofs.Common.{replicate, Option, Some, None, refl, sym, ap, ◌∙◌, inl, inr, subst, arith}
 use Rattle.std.proofs.lemmas.Bool.{false≢true}
 use Rattle.std.proofs.lemmas.Option.{none-some, same_Some}
@@ -8,7 +8,7 @@ use Rattle.zd_model.specs.Requests.{Operation, operation_of}
 use Rattle.zd_model.specs.Requests.Operation.{Reading, Writing, Discarding, Flushing}
 use Rattle.zd_model.specs.declared.requests.Piece.{Piece}
 use Rattle.zd_steps.specs.Runs.{chunk_of, flushes, is_flushing, is_reading, is_writing, reads, writes}
-use Rattle.zd_steps.specs.Queues.{AreFirsts, AreFlights, AreHeads, Callers, IsInFlight, IsQueue, IsScriptOf, MayServe, QueueState, first_of}
+use Rattle.zd_steps.specs.Queues.{AreFirsts, AreFlights, Callers, IsInFlight, IsScriptOf, MayServe, QueueState, first_of}
 
 -- what stands at a place once one is set
 set_place : {X : Type 0} (xs : List X) (a b : ℕ) (x y : X) → slice_get (set xs a x) b ≡ Some y

@@ -1,7 +1,7 @@
 -- The least head whose piece passes, as it is found caller by caller.
-use Rattle.std.proofs.Common.{◌≡◌, ℕ, ◌<◌, ◌≤◌, Bool, true, List, length, slice_get, Some}
+use Rattle.std.proofs.Common.{◌≡◌, ℕ, ◌<◌, ◌≤◌, Bool, true, length, slice_get, Some}
 use Rattle.zd_model.specs.declared.requests.Piece.{Piece}
-use Rattle.zd_steps.specs.Queues.{Callers, IsLeast, first_of, head_of}
+use Rattle.zd_steps.specs.Queues.{Callers, first_of, head_of}
 
 -- among the callers below n
 pub record IsLeastBelow (h : Callers) (test : Piece → Bool) (from n place : ℕ) : Type 0 where

@@ -9,3 +9,4 @@ pub mod ToldLaws
 pub mod ChosenLaws
 pub mod FlushLaws
 pub mod KeptLaws
+pub mod ScriptLaws

@@ -1,6 +1,6 @@
 -- The links of pieces and the callers' heads: as they are built from the end, and as a head goes on.
-use Rattle.std.proofs.Common.{◌≡◌, ◌≢◌, ◌⊎◌, ℕ, ◌+◌, ◌<◌, ◌≤◌, false, List, [], ◌∷◌, ◌++◌, length, map, take, set}
-use Rattle.std.proofs.Common.{get_or, replicate, slice_index, slice_get, Some, refl, sym, ap, ◌∙◌, inl, inr, subst, arith}
+use Rattle.std.proofs.Common.{◌≡◌, ◌≢◌, ◌⊎◌, ℕ, ◌+◌, ◌<◌, ◌≤◌, false, List, length, set}
+use Rattle.std.proofs.Common.{get_or, replicate, slice_index, slice_get, Some, sym, ap, ◌∙◌, inl, inr, subst, arith}
 use Rattle.std.proofs.lemmas.Bool.{cases_eq, cases_lt}
 use Rattle.std.proofs.lemmas.List.{get_or-set_same, get_or-set_other, get_or_default, get_or_past}
 use Rattle.std.proofs.lemmas.List.{get_or-replicate, length-replicate, length-set}
@@ -81,7 +81,7 @@ link_as pieces links heads i k h p callers inside is number read behind =
     let size = behind.callers in
     let below = callers i p at in
     let value : h ≡ head_in pieces heads p.caller =
-        read ∙ ap (λ n. get_or heads n 0) number ∙ get_or_default heads p.caller 0 (length pieces) (omega (arith, size, below)) in
+    read ∙ ap (λ n. get_or heads n 0) number ∙ get_or_default heads p.caller 0 (length pieces) (omega (arith, size, below)) in
     subst (λ n. AreLinkedFrom pieces (set links i h) (set heads n i) i) (sym number)
     (subst (λ n. AreLinkedFrom pieces (set links i n) (set heads p.caller i) i) (sym value)
     (link_one pieces links heads i p callers at behind))
@@ -138,6 +138,6 @@ link_read pieces links heads caller place j linked are known place_is inside j_i
     let same : place ≡ head = place_is ∙ get_or_default heads caller 0 (length pieces) (let size = are.count in omega (arith, size, known)) in
     let at : slice_get pieces head ≡ Some (get_or pieces head nobody) = slice_get-get_or pieces head nobody inside in
     let value : slice_index links head ≡ j =
-        get_or_default links head 0 j (let size = linked.count in omega (arith, size, inside)) ∙ ap (λ n. get_or links n j) (sym same) ∙ sym j_is in
+    get_or_default links head 0 j (let size = linked.count in omega (arith, size, inside)) ∙ ap (λ n. get_or links n j) (sym same) ∙ sym j_is in
     subst (λ c. IsFirstFrom pieces c (head + 1) j) (are.own caller (get_or pieces head nobody) at)
     (subst (IsFirstFrom pieces (get_or pieces head nobody).caller (head + 1)) value (linked.each head (get_or pieces head nobody) at))

@@ -98,14 +98,6 @@ impl Heads {
         self.heads[caller]
     }
 
-    /// The first piece of a caller that isn't entered.
-    pub(crate) fn first(&self, caller: usize) -> Option<&Piece>
-        requires { caller < 64 }
-        ensures { option_copied result ≡ first_of self.now caller }
-    {
-        self.pieces.get(self.heads[caller])
-    }
-
     /// The piece at a place.
     pub(crate) fn at(&self, place: usize) -> Option<&Piece>
         ensures { option_copied result ≡ slice_get self.now.pieces place }

@@ -81,6 +81,15 @@ impl Queue {
         self.heads.is_over()
     }
 
+    /// A caller's head: the place of its first piece that isn't entered; the count of all pieces where there is
+    /// none.
+    pub fn head(&self, caller: u8) -> usize
+        requires { caller < 64 }
+        ensures { result ≡ head_of self.now.callers caller }
+    {
+        self.heads.head(usize::from(caller))
+    }
+
     /// The class of pieces: the next step of what the actor has in flight, else of the first piece that is
     /// eligible and ready.
     fn piece_step<V: HasStanding>(&self, volume: &V, actor: usize) -> Option<Step>

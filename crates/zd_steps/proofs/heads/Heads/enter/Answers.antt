@@ -1,5 +1,5 @@
-use Rattle.std.proofs.Common.{◌≡◌, ◌+◌, ◌<◌, ℕ, get_or, refl, slice_get, length, Some, sym, ap, ◌∙◌, subst, arith}
-use Rattle.zd_steps.specs.Queues.{AreHeads, Callers, HasEntered, IsFirstFrom, first_of, head_in, head_of}
+use Rattle.std.proofs.Common.{◌≡◌, ◌<◌, get_or, refl, slice_get, length, Some, sym, ap, ◌∙◌, subst, arith}
+use Rattle.zd_steps.specs.Queues.{Callers, HasEntered, first_of, head_in, head_of}
 use Rattle.zd_steps.proofs.LinkLaws.{heads_on, link_read}
 use Rattle.zd_steps.proofs.EnterLaws.{one_entered}
 use Rattle.zd_steps.proofs.heads.Heads.enter.Goals as goal
@@ -38,7 +38,7 @@ returns-clause-entered c entered p before at =
     let inside = subst (λ n. head_in c.self.inside.pieces.items c.self.inside.heads n < length c.self.inside.pieces.items) (sym is) some in
     let there = subst (λ (v : Callers). first_of v c.args.caller ≡ Some p) (sym c.self.view_is) at in
     let first : slice_get c.self.inside.pieces.items (head_in c.self.inside.pieces.items c.self.inside.heads c.from-caller.result) ≡ Some p =
-        ap (λ n. slice_get c.self.inside.pieces.items (head_in c.self.inside.pieces.items c.self.inside.heads n)) is ∙ there in
+    ap (λ n. slice_get c.self.inside.pieces.items (head_in c.self.inside.pieces.items c.self.inside.heads n)) is ∙ there in
     one_entered c.self.inside.pieces.items c.self.inside.heads entered c.from-caller.result c.index.result.now p
     (let size = c.self.told in omega (arith, size, known)) (c.self.invariant.2.own c.from-caller.result p first) first
     (link_read c.self.inside.pieces.items c.self.inside.links.items c.self.inside.heads c.from-caller.result

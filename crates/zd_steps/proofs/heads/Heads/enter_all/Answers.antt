@@ -16,7 +16,7 @@ loop-piece-preserved c =
     let at : slice_get list i ≡ Some p = slice_get-get_or list i nobody low in
     let old = c.loop-piece.invariant in
     let first : first_of c.loop-piece.self p.caller ≡ Some p =
-        old.others p.caller (λ k q below at_k. c.requires.firsts.apart k i q p below at_k at) ∙ c.requires.firsts.first i p at in
+    old.others p.caller (λ k q below at_k. c.requires.firsts.apart k i q p below at_k at) ∙ c.requires.firsts.first i p at in
     record {
       pieces = c.enter.ensures.pieces ∙ old.pieces;
       heads = c.enter.ensures.heads;

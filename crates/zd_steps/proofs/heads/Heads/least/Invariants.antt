@@ -1,6 +1,3 @@
-use Rattle.std.proofs.Common.{◌≡◌, ℕ, ◌<◌, ◌≤◌, true, length, slice_get, Some}
-use Rattle.zd_model.specs.declared.requests.Piece.{Piece}
-use Rattle.zd_steps.specs.Queues.{first_of, head_of}
 use Rattle.zd_steps.proofs.LeastLaws.{IsLeastBelow}
 use Rattle.zd_steps.proofs.heads.Heads.least.Given as goal
 

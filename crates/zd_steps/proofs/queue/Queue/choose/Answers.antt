@@ -14,7 +14,7 @@ returns-clause-serve g c entered p before e =
       flights = c.self.inside.flights.pieces.items;
     } in
     subst (λ (s : QueueState). next_step (run_of s entered) (g.V.HasStanding.standing c.args.volume.now) c.args.actor c.args.prefer ≡ Some (Serve p)
-        → HasEntered s.callers entered → c.args.actor < length s.flights → MayServe s c.args.actor p × (is_ready (g.V.HasStanding.standing c.args.volume.now) p ≡ true))
+    → HasEntered s.callers entered → c.args.actor < length s.flights → MayServe s c.args.actor p × (is_ready (g.V.HasStanding.standing c.args.volume.now) p ≡ true))
     c.self.view_is
     (λ next b inside. may_serve q c.self.invariant entered b (g.V.HasStanding.standing c.args.volume.now) c.args.actor c.args.prefer p inside next)
     (next_goes (run_of c.args.self.now entered) (g.V.HasStanding.standing c.args.volume.now) c.args.actor c.args.prefer c.by_preference.result

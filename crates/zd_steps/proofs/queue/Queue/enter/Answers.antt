@@ -1,6 +1,5 @@
-use Rattle.std.proofs.Common.{◌≡◌, List, Option, None, set, sym, subst}
-use Rattle.zd_model.specs.declared.requests.Piece.{Piece}
-use Rattle.zd_steps.specs.Queues.{AreFlights, MayServe, QueueState}
+use Rattle.std.proofs.Common.{None, set, sym, subst}
+use Rattle.zd_steps.specs.Queues.{MayServe, QueueState}
 use Rattle.zd_steps.proofs.KeptLaws.{entered_fly, same_flights, same_script}
 use Rattle.zd_steps.proofs.queue.Queue.enter.Goals as goal
 

@@ -15,7 +15,7 @@ enter_all-requires-clause-firsts c =
       flights = c.self.inside.flights.pieces.items;
     } in
     let known = subst (λ (s : QueueState). (entered : List Mark) × HasEntered s.callers entered × (c.args.list.now ≡ eligible_flushes (run_of s entered)))
-        (sym c.self.view_is) c.requires in
+    (sym c.self.view_is) c.requires in
     subst (λ (ps : List Piece). AreFirsts c.self.inside.heads ps) (sym known.2) (flush_firsts q c.self.invariant known.0 known.1)
 
 pub invariant_of-self : goal.invariant_of-self
@@ -26,7 +26,7 @@ invariant_of-self c =
       flights = c.self.inside.flights.pieces.items;
     } in
     let known = subst (λ (s : QueueState). (entered : List Mark) × HasEntered s.callers entered × (c.args.list.now ≡ eligible_flushes (run_of s entered)))
-        (sym c.self.view_is) c.requires in
+    (sym c.self.view_is) c.requires in
     record {
       script = same_script c.self.inside.heads.pieces c.enter_all.new.self.pieces c.enter_all.ensures.pieces c.self.invariant.script;
       heads = c.enter_all.ensures.heads;

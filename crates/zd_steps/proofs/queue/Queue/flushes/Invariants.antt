@@ -1,7 +1,7 @@
-use Rattle.std.proofs.Common.{◌≡◌, ℕ, ◌+◌, ◌-◌, ◌≤◌, ◌++◌, List, length, drop, filter, vec_len, vec_capacity}
+use Rattle.std.proofs.Common.{ℕ, ◌+◌, ◌-◌, ◌≤◌, List, length, vec_len, vec_capacity}
 use Rattle.zd_model.specs.History.{Mark}
-use Rattle.zd_steps.specs.Queues.{HasEntered, IsLeast, QueueState, run_of}
-use Rattle.zd_steps.specs.Runs.{flushes, is_eligible_flush}
+use Rattle.zd_steps.specs.Queues.{HasEntered, IsLeast}
+use Rattle.zd_steps.specs.Runs.{flushes}
 use Rattle.zd_steps.proofs.FlushLaws.{IsGathered, heads_from}
 use Rattle.zd_steps.proofs.queue.Queue.flushes.Given as goal
 

@@ -1,6 +1,5 @@
-use Rattle.std.proofs.Common.{◌≡◌, List, Option, Some, set, sym, subst}
-use Rattle.zd_model.specs.declared.requests.Piece.{Piece}
-use Rattle.zd_steps.specs.Queues.{AreFlights, MayServe, QueueState}
+use Rattle.std.proofs.Common.{Some, set, sym, subst}
+use Rattle.zd_steps.specs.Queues.{MayServe, QueueState}
 use Rattle.zd_steps.proofs.KeptLaws.{flown_fly, same_flights}
 use Rattle.zd_steps.proofs.queue.Queue.fly.Goals as goal
 

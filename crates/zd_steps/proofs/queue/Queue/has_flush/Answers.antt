@@ -13,5 +13,5 @@ returns c =
       flights = c.self.inside.flights.pieces.items;
     } in
     subst (λ (s : QueueState). (entered : List Mark) → HasEntered s.callers entered
-        → ltb c.least.result c.count.result ≡ has_flush (run_of s entered)) c.self.view_is
+    → ltb c.least.result c.count.result ≡ has_flush (run_of s entered)) c.self.view_is
     (λ entered before. ap (ltb c.least.result) c.count.ensures ∙ flush_is q c.self.invariant entered before c.least.result c.least.ensures.least)

@@ -13,6 +13,6 @@ returns g c =
       flights = c.self.inside.flights.pieces.items;
     } in
     subst (λ (s : QueueState). (entered : List Mark) → HasEntered s.callers entered
-        → ltb c.least.result c.count.result ≡ is_wanted (run_of s entered) (g.V.HasStanding.standing c.args.volume.now)) c.self.view_is
+    → ltb c.least.result c.count.result ≡ is_wanted (run_of s entered) (g.V.HasStanding.standing c.args.volume.now)) c.self.view_is
     (λ entered before. ap (ltb c.least.result) c.count.ensures
     ∙ wanted_is q c.self.invariant entered before (g.V.HasStanding.standing c.args.volume.now) c.least.result c.least.ensures.least)
