@@ -11,3 +11,4 @@ pub mod Tables
 pub mod Choices
 pub mod Images
 pub mod Remains
+pub mod Steps

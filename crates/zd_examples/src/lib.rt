@@ -12,5 +12,6 @@ pub mod remains;
 pub mod reports;
 pub mod requests;
 pub mod scripts;
+pub mod steps;
 pub mod stops;
 pub mod tables;
