@@ -1,5 +1,5 @@
 -- The greatest numbers that choices may name: how many events there are of a sector or a zone.
-use Rattle.std.specs.Prelude.{◌≡◌, ℕ, ◌+◌, ◌≤◌, ◌==◌, ◌&&◌, Bool, false, List, count_by}
+use Rattle.std.specs.Prelude.{◌≡◌, ℕ, ◌+◌, ◌≤◌, ◌==◌, ◌&&◌, Bool, false, List, length, filter}
 use Rattle.zd_model.specs.Left.{Call, Event, under_way, zone_of}
 use Rattle.zd_model.specs.Left.Event.{Put, Clear}
 use Rattle.zd_memdisk.specs.Events.{done_by}
@@ -14,7 +14,7 @@ is_event_of (Zone zone) e = zone_of e == zone
 
 -- how many of these events are
 abbrev pub event_count : EventsOf → List Event → ℕ
-event_count which events = count_by (is_event_of which) events
+event_count which events = length (filter (is_event_of which) events)
 
 -- those that were done since the last flush when k calls had returned, and those that were under way
 abbrev pub events_by : EventsOf → List Call → ℕ → ℕ

@@ -31,38 +31,54 @@ impl EventsOf {
     ghost use Rattle.zd_memdisk.specs.Greatest.{event_count, events_by};
 
     // Those of so many sectors that are written from one on.
-    fn of_sectors(self, written: ZoneNo, start: u32, count: usize) -> u64
+    fn of_sectors(&self, written: ZoneNo, start: u32, count: usize) -> u64
         requires { start + count < 2 ^ 32 }
-        ensures value { (bytes : List ℕ) → result ≡ event_count self (puts written start bytes 0 count) }
+        ensures value { (bytes : List ℕ) → result ≡ event_count self.now (puts written start bytes 0 count) }
         ensures few { result ≤ count }
     {
-        match self {
+        match *self {
             EventsOf::Sector { zone, sector } => {
-                let is_written = written == zone
-                    && start <= sector
-                    && (sector as usize) < start as usize + count;
-                if is_written { 1 } else { 0 }
+                if zone != written {
+                    return 0;
+                }
+                if sector < start {
+                    return 0;
+                }
+                if start as usize + count <= sector as usize {
+                    return 0;
+                }
+                1
             }
-            EventsOf::Zone { zone } => { if written == zone { count as u64 } else { 0 } }
+            EventsOf::Zone { zone } => {
+                if zone != written {
+                    return 0;
+                }
+                count as u64
+            }
         }
     }
 
     // Those of a reset.
-    fn of_reset(self, reset: ZoneNo) -> u64
-        ensures value { result ≡ event_count self (Clear reset ∷ []) }
+    fn of_reset(&self, reset: ZoneNo) -> u64
+        ensures value { result ≡ event_count self.now (Clear reset ∷ []) }
         ensures few { result ≤ 1 }
     {
-        match self {
-            EventsOf::Zone { zone } if zone == reset => 1,
-            _ => 0,
+        match *self {
+            EventsOf::Sector { .. } => 0,
+            EventsOf::Zone { zone } => {
+                if zone != reset {
+                    return 0;
+                }
+                1
+            }
         }
     }
 
     // Those that a call did.
-    fn of_done(self, call: &WritingCall) -> u64
+    fn of_done(&self, call: &WritingCall) -> u64
         requires { IsFit call.now }
         ensures value { (bytes : List ℕ) (at : ℕ) → at + byte_count call.now ≤ length bytes →
-            result ≡ event_count self (done_of (call_at bytes at call.now)) }
+            result ≡ event_count self.now (done_of (call_at bytes at call.now)) }
         ensures few { result ≤ byte_count call.now + 1 }
     {
         match *call {
@@ -78,10 +94,10 @@ impl EventsOf {
     }
 
     // Those that a call was asked for.
-    fn of_asked(self, call: &WritingCall) -> u64
+    fn of_asked(&self, call: &WritingCall) -> u64
         requires { IsFit call.now }
         ensures value { (bytes : List ℕ) (at : ℕ) → at + byte_count call.now ≤ length bytes →
-            result ≡ event_count self (asked_of (call_at bytes at call.now)) }
+            result ≡ event_count self.now (asked_of (call_at bytes at call.now)) }
         ensures few { result ≤ byte_count call.now + 1 }
     {
         match *call {
@@ -97,12 +113,12 @@ impl EventsOf {
     }
 
     // How many there are since the last flush, where one more call has returned.
-    fn after(self, count: u64, call: &WritingCall) -> u64
+    fn after(&self, count: u64, call: &WritingCall) -> u64
         requires fit { IsFit call.now }
         requires room { count + byte_count call.now + 1 < 2 ^ 64 }
         ensures value { (bytes : List ℕ) (at : ℕ) (done : Done) → at + byte_count call.now ≤ length bytes →
-            count ≡ event_count self done.since →
-            result ≡ event_count self (after_done done (call_at bytes at call.now)).since }
+            count ≡ event_count self.now done.since →
+            result ≡ event_count self.now (after_done done (call_at bytes at call.now)).since }
         ensures few { result ≤ count + byte_count call.now + 1 }
     {
         if let WritingCall::Flush { ok: true } = *call {
@@ -113,11 +129,11 @@ impl EventsOf {
 
     /// How many there are when so many calls have returned: those since the last flush that answered Ok, and
     /// those of the call under way.
-    pub fn up_to(self, noted: &[Noted], stop: u64) -> u64
+    pub fn up_to(&self, noted: &[Noted], stop: u64) -> u64
         requires fit { AreFit noted.now }
         requires bytes { length noted.now + total_bytes noted.now + 1 < 2 ^ 64 }
         ensures { (bytes : List ℕ) (skipped : ℕ) → length bytes ≡ total_bytes noted.now →
-            result ≡ events_by self (calls_of noted.now bytes skipped) stop }
+            result ≡ events_by self.now (calls_of noted.now bytes skipped) stop }
     {
         let mut left = stop;
         let mut count = 0;

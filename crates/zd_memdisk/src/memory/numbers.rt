@@ -24,10 +24,8 @@ impl MemDisk {
         if k > self.calls() || zone.0 >= geometry.conv() || sector >= 8 * geometry.zone_blocks() {
             return None;
         }
-        Some(
-            self.recorded
-                .event_count(EventsOf::Sector { zone, sector }, k),
-        )
+        let which = EventsOf::Sector { zone, sector };
+        Some(self.recorded.event_count(&which, k))
     }
 
     /// The longest prefix of a sequential zone's events at a stop when `k` writing calls had returned: how many
@@ -43,6 +41,7 @@ impl MemDisk {
         if k > self.calls() || zone.0 < geometry.conv() || zone.0 >= geometry.zones() {
             return None;
         }
-        Some(self.recorded.event_count(EventsOf::Zone { zone }, k))
+        let which = EventsOf::Zone { zone };
+        Some(self.recorded.event_count(&which, k))
     }
 }

@@ -12,9 +12,9 @@ impl Record {
 
     /// How many events of a sector or a zone there are when so many calls have returned: those since the last
     /// flush that answered Ok, and those of the call under way.
-    pub fn event_count(&self, which: EventsOf, stop: u64) -> u64
+    pub fn event_count(&self, which: &EventsOf, stop: u64) -> u64
         requires { AreFit self.now.noted.items }
-        ensures { result ≡ events_by which (record_calls self.now) stop }
+        ensures { result ≡ events_by which.now (record_calls self.now) stop }
     {
         which.up_to(&self.noted, stop)
     }

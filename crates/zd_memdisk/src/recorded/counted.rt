@@ -11,8 +11,8 @@ impl RecordedStore {
 
     /// How many events of a sector or a zone there are when so many calls have returned: those since the last
     /// flush that answered Ok, and those of the call under way.
-    pub fn event_count(&self, which: EventsOf, stop: u64) -> u64
-        ensures { result ≡ events_by which (calls_by self.now) stop }
+    pub fn event_count(&self, which: &EventsOf, stop: u64) -> u64
+        ensures { result ≡ events_by which.now (calls_by self.now) stop }
     {
         let _blocks = self.store.geometry().zone_blocks();
         self.history.event_count(which, stop)
