@@ -1,12 +1,12 @@
 -- The blocks that are valid in one zone become valid in another, run by run.
-use Rattle.std.proofs.Common.{◌≡◌, ◌≢◌, ◌⊎◌, ℕ, ◌+◌, ◌*◌, ◌/◌, ◌%◌, ◌<◌, ◌≤◌, Bool, ◌||◌, true, false, List, length}
+use Rattle.std.proofs.Common.{◌≡◌, ◌≢◌, ◌⊎◌, ℕ, ◌+◌, ◌*◌, ◌/◌, ◌%◌, ◌<◌, ◌≤◌, Bool, ◌||◌, true, false, List}
 use Rattle.std.proofs.Common.{inl, inr, refl, sym, ap, ap₂, ◌∙◌, subst, arith}
 use Rattle.std.proofs.Math.Bool.{or-false}
-use Rattle.std.proofs.lemmas.Bool.{cases_Bool, cases_eq, cases_lt, false≢true}
+use Rattle.std.proofs.lemmas.Bool.{cases_eq, cases_lt, false≢true}
 use Rattle.zd_base.specs.Geometry.{IsShape, Shape, per, zone_count}
 use Rattle.zd_base.specs.declared.layout.Layout.{Layout}
 use Rattle.zd_bits.specs.Bits.{IsBitRun}
-use Rattle.zd_model.specs.Tables.{Tables, is_set, is_valid}
+use Rattle.zd_model.specs.Tables.{is_set, is_valid}
 use Rattle.zd_model.proofs.FaultLaws.{or_right}
 use Rattle.zd_sets.specs.Blocks.{blocks_of}
 use Rattle.zd_tables.specs.Changes.{ChangesBits, Differs, bits_block}

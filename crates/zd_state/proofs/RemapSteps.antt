@@ -8,10 +8,9 @@ use Rattle.zd_base.specs.declared.layout.Layout.{Layout}
 use Rattle.zd_alloc.specs.Candidates.{GivesClass}
 use Rattle.zd_alloc.specs.Zones.{Division, use_after_release, use_at}
 use Rattle.zd_alloc.specs.declared.job_class.JobClass.{JobClass}
-use Rattle.zd_alloc.specs.declared.uses.ZoneUse.{ZoneUse}
 use Rattle.zd_alloc.specs.declared.uses.ZoneUse.TheVariants.{Held}
 use Rattle.zd_map.specs.Numbers.{IsZoneField}
-use Rattle.zd_model.specs.Tables.{NamesZone, Tables, entry_of, is_valid}
+use Rattle.zd_model.specs.Tables.{NamesZone, entry_of, is_valid}
 use Rattle.zd_model.specs.declared.metadata.MapEntry.{MapEntry}
 use Rattle.zd_model.proofs.FaultLaws.{none_some, some_is}
 use Rattle.zd_sets.specs.Blocks.{blocks_of}
@@ -23,7 +22,7 @@ use Rattle.zd_tables.proofs.ZoneParts.{bits_room}
 use Rattle.zd_volume.specs.Flights.{tables_now}
 use Rattle.zd_volume.specs.Jobs.{IsJob, class_in}
 use Rattle.zd_volume.specs.Marks.{GivesBits, MarksChanged}
-use Rattle.zd_volume.specs.Sets.{Sets, used}
+use Rattle.zd_volume.specs.Sets.{Sets}
 use Rattle.zd_volume.specs.Volumes.{IsFixed, PlainVolume, sets_of}
 use Rattle.zd_volume.specs.declared.work.Work.{Work}
 use Rattle.zd_volume.proofs.MarkLaws.{marks_parts, only_zone}

@@ -2,7 +2,6 @@ use Rattle.std.proofs.Common.{◌≡◌, ◌∙◌, Some, ap, sym, arith}
 use Rattle.zd_jobs.specs.NextSteps.{IsCopied, source}
 use Rattle.zd_jobs.proofs.WorkLaws.{source_low}
 use Rattle.zd_model.specs.Tables.{entry_of}
-use Rattle.zd_model.specs.declared.metadata.MapEntry.{MapEntry}
 use Rattle.zd_volume.specs.Flights.{tables_now}
 use Rattle.zd_volume.specs.Jobs.{source_of}
 use Rattle.zd_state.proofs.NextRuns.{none_left, run_left, where_none}

@@ -1,4 +1,4 @@
-use Rattle.std.proofs.Common.{◌≡◌, Some, None, sym, subst, arith}
+use Rattle.std.proofs.Common.{◌≡◌, Some, sym, subst}
 use Rattle.zd_model.specs.Tables.{entry_of}
 use Rattle.zd_jobs.specs.JobSteps.{BeginsBy}
 use Rattle.zd_jobs.specs.Possible.{IsPossible}

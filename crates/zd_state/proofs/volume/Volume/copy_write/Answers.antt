@@ -1,5 +1,4 @@
-use Rattle.std.proofs.Common.{◌≡◌, ◌*◌, Some, Ok, Err, ap, take}
-use Rattle.zd_base.specs.declared.numbers.Why.{Why}
+use Rattle.std.proofs.Common.{◌≡◌, ◌*◌, Some, ap, take}
 use Rattle.zd_base.specs.declared.steps.StepKind.{StepKind}
 use Rattle.zd_disk.proofs.ToldLaws.{OnErr-at, OnOk-at}
 use Rattle.zd_jobs.specs.NextSteps.{IsNextOf}
