@@ -1,7 +1,8 @@
 use Rattle.std.proofs.Common.{ap}
 use Rattle.zd_state.specs.Seen.{KeptState}
-use Rattle.zd_state.proofs.RemapSteps.{left_flag, left_in_use, left_inside, left_still, left_there, remaps_in_steps, rules_in_steps}
-use Rattle.zd_state.proofs.RemapSteps.{target_apart, target_field, target_there}
+use Rattle.zd_state.proofs.RemapBits.{target_apart, target_field}
+use Rattle.zd_state.proofs.RemapSteps.{left_flag, left_in_use, left_inside, left_still, left_there, remaps_in_steps}
+use Rattle.zd_state.proofs.RemapSteps.{rules_in_steps, target_there}
 use Rattle.zd_state.proofs.state.VolumeState.end_job.Goals as goal
 
 pub give_entry-requires-clause-zones : goal.give_entry-requires-clause-zones
