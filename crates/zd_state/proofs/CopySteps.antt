@@ -34,7 +34,8 @@ run_found : {T : Type 0} (v : PlainVolume) (w : Work) (at count : ℕ) → IsNex
 run_found v w at count run None none = absurd (not_all v w at count run none)
 run_found v w at count run (Some x) none = refl
 
-run_read : (v : PlainVolume) (w : Work) → IsNextOf v w StepKind.CopyRead → (at : ℕ) × (count : ℕ) × IsNextRun v w at count
+run_read : (v : PlainVolume) (w : Work) → IsNextOf v w StepKind.CopyRead
+    → (at : ℕ) × (count : ℕ) × IsNextRun v w at count
 run_read v w (inl read) = absurd (let same = read.1 in let f : ⊥ = cc in f)
 run_read v w (inr (inl all)) = absurd (let same = all.2 in let f : ⊥ = cc in f)
 run_read v w (inr (inr there)) = (there.1.0, there.1.1, there.1.2)

@@ -133,7 +133,8 @@ marks_more a b c d e f first second between = record {
 
 module _ (g : Shape) (l : Layout) (shape : IsShape g) (from to : ℕ) (apart : to ≢ from) (to_low : to < zone_count g)
     (first mid end : ℕ) (early : first ≤ mid) (late : mid ≤ end) (inside : end ≤ g.zone_blocks) (a b c : List ℕ)
-    (d e f : List Bool) (one : JoinsBlocks g l from to first mid a b d e) (two : JoinsBlocks g l from to mid end b c e f)
+    (d e f : List Bool) (one : JoinsBlocks g l from to first mid a b d e)
+    (two : JoinsBlocks g l from to mid end b c e f)
   where
     -- a bit of a block that is as it was
     same_bit : (old new : List ℕ) (k x : ℕ) → x < end → bits_block g l to + x / 32768 ≡ k

@@ -65,7 +65,8 @@ has_joined g l from (Some to) old new dirty marked joins = record {
 }
 
 -- the flags, where the change before left the target's bitmap alone
-joined_marks : (g : Shape) (l : Layout) (from : ℕ) (o : Option ℕ) (first old new : List ℕ) (early dirty marked : List Bool)
+joined_marks : (g : Shape) (l : Layout) (from : ℕ) (o : Option ℕ) (first old new : List ℕ)
+    (early dirty marked : List Bool)
     → MarksChanged first old early dirty → JoinsInto g l from o old new dirty marked
     → ((z k : ℕ) → o ≡ Some z → bits_block g l z ≤ k → blocks_of old k 1 ≡ blocks_of first k 1)
     → MarksChanged first new early marked

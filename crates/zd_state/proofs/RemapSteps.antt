@@ -47,7 +47,8 @@ module _ (v : PlainVolume) (w : Work) (fixed : IsFixed v) (is : v.job ≡ Some w
       joins_here : JoinsInto v.geometry v.head.layout y w.target a.fresh b.fresh
           (set v.dirty (entry_block w.job.chunk) true) b.dirty
       joins_here =
-          subst (λ (flags : List Bool). JoinsInto v.geometry v.head.layout y w.target a.fresh b.fresh flags b.dirty) marked
+          subst (λ (flags : List Bool). JoinsInto v.geometry v.head.layout y w.target a.fresh b.fresh flags b.dirty)
+          marked
           (subst (λ (u : PlainVolume). JoinsInto u.geometry u.head.layout y w.target a.fresh b.fresh a.dirty b.dirty)
           entered joins)
 
@@ -60,11 +61,13 @@ module _ (v : PlainVolume) (w : Work) (fixed : IsFixed v) (is : v.job ≡ Some w
             ∙ ap (λ (u : PlainVolume). record u { fresh = c.fresh; dirty = c.dirty })
             (both ∙ ap (λ (u : PlainVolume). record u { fresh = b.fresh; dirty = b.dirty }) entered)
 
-        clears_here : GivesBits false v.geometry v.head.layout y 0 v.geometry.zone_blocks b.fresh c.fresh b.dirty c.dirty
+        clears_here : GivesBits false v.geometry v.head.layout y 0 v.geometry.zone_blocks b.fresh c.fresh b.dirty
+            c.dirty
         clears_here =
             subst (λ (n : ℕ). GivesBits false v.geometry v.head.layout y 0 n b.fresh c.fresh b.dirty c.dirty)
             (let same : 0 + blocks ≡ v.geometry.zone_blocks = omega (arith, all) in same)
-            (subst (λ (u : PlainVolume). GivesBits false u.geometry u.head.layout y 0 (0 + blocks) b.fresh c.fresh b.dirty
+            (subst (λ (u : PlainVolume). GivesBits false u.geometry u.head.layout y 0 (0 + blocks) b.fresh c.fresh
+            b.dirty
             c.dirty) (both ∙ ap (λ (u : PlainVolume). record u { fresh = b.fresh; dirty = b.dirty }) entered) clears)
 
         -- what the release asks for
@@ -79,7 +82,9 @@ module _ (v : PlainVolume) (w : Work) (fixed : IsFixed v) (is : v.job ≡ Some w
             (let low = left_low v w fixed is y gives in let count = fixed.uses.count in omega (arith, low, count))
 
         pub left_in_use : use_at c.division.zones y ≡ Held
-        left_in_use = subst (λ (u : PlainVolume). use_at u.division.zones y ≡ Held) (sym so_far) (left_held v w fixed is y gives)
+        left_in_use =
+            subst (λ (u : PlainVolume). use_at u.division.zones y ≡ Held) (sym so_far)
+            (left_held v w fixed is y gives)
 
         -- the zone is released, and the job has ended
         module _ (d : PlainVolume) (released : d ≡ record c { division = d.division }) (e : PlainVolume)
@@ -107,7 +112,8 @@ module _ (v : PlainVolume) (w : Work) (fixed : IsFixed v) (is : v.job ≡ Some w
               (sym (classed ∙ ap (λ (u : PlainVolume). record u {
                 standings = record u.standings { classes = f.standings.classes };
               }) before_class))
-              (remap_did v w fixed is y gives a.fresh sets b.fresh b.dirty joins_here c.fresh c.dirty clears_here d.division
+              (remap_did v w fixed is y gives a.fresh sets b.fresh b.dirty joins_here c.fresh c.dirty clears_here
+              d.division
               f.standings.classes
               (zones
               ∙ ap (λ (u : PlainVolume). set u.division.zones y (use_after_release (get_or u.named y false))) so_far

@@ -26,7 +26,13 @@ returns-in_err-at-clause-none c =
     where_none c.from_residual-in_err-at.result (IsCopied v c.args.work.now)
     (none_left v c.args.work.now c.requires.fixed c.requires.job c.in_ok-zone.zone from
     (rw (← c.self.view_is)
-    (rw (c.bits-bits.ensures.value, c.zone_blocks-end.ensures.value, c.geometry.ensures, c.self.invariant, ← c.self.view_is) at
+    (rw (
+      c.bits-bits.ensures.value,
+      c.zone_blocks-end.ensures.value,
+      c.geometry.ensures,
+      c.self.invariant,
+      ← c.self.view_is,
+    ) at
     c.in_err-at.ensures.none)))
 
 pub returns-clause-some : goal.returns-clause-some
@@ -39,9 +45,17 @@ returns-clause-some c =
       run_left v c.args.work.now c.requires.fixed c.requires.job c.in_ok-zone.zone from c.in_ok-at.at c.min.result
           c.run_at-count.result.1 c.run_at-count.result.0
           (rw (← c.self.view_is)
-          (rw (c.bits-bits.ensures.value, c.zone_blocks-end.ensures.value, c.geometry.ensures, c.self.invariant, ← c.self.view_is) at
+          (rw (
+            c.bits-bits.ensures.value,
+            c.zone_blocks-end.ensures.value,
+            c.geometry.ensures,
+            c.self.invariant,
+            ← c.self.view_is,
+          ) at
           c.in_ok-at.ensures.some))
-          (let e = c.min.ensures in let end = rw c.geometry.ensures at c.zone_blocks-end.ensures.value in omega (arith, e, end))
+          (let least = c.min.ensures in
+          let end = rw c.geometry.ensures at c.zone_blocks-end.ensures.value in
+          omega (arith, least, end))
           (rw (← c.self.view_is)
           (rw (c.bits-bits.ensures.value, c.self.invariant) at c.run_at-count.ensures)),
       from,
