@@ -1,8 +1,7 @@
 -- Copies, by the steps of their code.
-use Rattle.std.proofs.Common.{◌≡◌, ℕ, ◌+◌, ◌-◌, ◌*◌, ◌<◌, ◌≤◌, min, List, length, replicate, take, Option, Result, Ok, Err}
-use Rattle.std.proofs.Common.{Some, None, IfNone, IsSome, OnOk, inl, inr, refl, sym, ap, ◌∙◌, subst, arith}
+use Rattle.std.proofs.Common.{◌≡◌, ℕ, ◌+◌, ◌-◌, ◌*◌, ◌≤◌, min, List, length, replicate, take, Option}
+use Rattle.std.proofs.Common.{Some, None, IfNone, IsSome, inl, inr, refl, sym, ap, ◌∙◌, subst, arith}
 use Rattle.std.proofs.lemmas.Bool.{false≢true}
-use Rattle.zd_base.specs.Geometry.{zone_count}
 use Rattle.zd_base.specs.declared.numbers.Why.{Why}
 use Rattle.zd_base.specs.declared.steps.StepKind.{StepKind}
 use Rattle.zd_disk.specs.Told.{WhereTold, next_count}
@@ -13,7 +12,7 @@ use Rattle.zd_volume.specs.Volumes.{IsFixed, IsKeptVolume, PlainVolume}
 use Rattle.zd_volume.specs.declared.work.Work.{Work}
 use Rattle.zd_volume.proofs.FixedLaws.{fixed_buffer}
 use Rattle.zd_jobs.specs.JobSteps.{FailsCopyRead, FailsCopyWrite, ReadsBlocks, WritesBlocksOn, WritesCopy}
-use Rattle.zd_jobs.specs.NextSteps.{IsCopied, IsNextOf, IsNextRun, IsNextStep, gap_count, source}
+use Rattle.zd_jobs.specs.NextSteps.{IsCopied, IsNextOf, IsNextRun, IsNextStep, source}
 use Rattle.zd_jobs.proofs.NextLaws.{gap_next, read_next, write_next}
 use Rattle.zd_jobs.proofs.WorkLaws.{run_below_told}
 
@@ -35,7 +34,8 @@ run_found : {T : Type 0} (v : PlainVolume) (w : Work) (at count : ℕ) → IsNex
 run_found v w at count run None none = absurd (not_all v w at count run none)
 run_found v w at count run (Some x) none = refl
 
-run_read : (v : PlainVolume) (w : Work) → IsNextOf v w StepKind.CopyRead → (at : ℕ) × (count : ℕ) × IsNextRun v w at count
+run_read : (v : PlainVolume) (w : Work) → IsNextOf v w StepKind.CopyRead
+    → (at : ℕ) × (count : ℕ) × IsNextRun v w at count
 run_read v w (inl read) = absurd (let same = read.1 in let f : ⊥ = cc in f)
 run_read v w (inr (inl all)) = absurd (let same = all.2 in let f : ⊥ = cc in f)
 run_read v w (inr (inr there)) = (there.1.0, there.1.1, there.1.2)

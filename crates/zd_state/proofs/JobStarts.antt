@@ -6,7 +6,7 @@ use Rattle.zd_base.specs.declared.geometry.Kind.TheVariants.{Sequential}
 use Rattle.zd_alloc.specs.Zones.{Division, HasNoFree, IsLeastOf, TakesLeast}
 use Rattle.zd_model.specs.Tables.{entry_of}
 use Rattle.zd_model.specs.declared.metadata.MapEntry.{MapEntry}
-use Rattle.zd_model.proofs.FaultLaws.{none_some, some_is}
+use Rattle.zd_model.proofs.FaultLaws.{some_is}
 use Rattle.zd_disk.specs.Steps.{ResetLeaves, ResetStep, WasReset}
 use Rattle.zd_disk.specs.Told.{next_count}
 use Rattle.zd_disk.specs.View.{Calls, HasFailed, Turns, View}

@@ -1,12 +1,12 @@
 -- The blocks that are valid in one zone become valid in another, run by run.
-use Rattle.std.proofs.Common.{◌≡◌, ◌≢◌, ◌⊎◌, ℕ, ◌+◌, ◌*◌, ◌/◌, ◌%◌, ◌<◌, ◌≤◌, Bool, ◌||◌, true, false, List, length}
+use Rattle.std.proofs.Common.{◌≡◌, ◌≢◌, ◌⊎◌, ℕ, ◌+◌, ◌*◌, ◌/◌, ◌%◌, ◌<◌, ◌≤◌, Bool, ◌||◌, true, false, List}
 use Rattle.std.proofs.Common.{inl, inr, refl, sym, ap, ap₂, ◌∙◌, subst, arith}
 use Rattle.std.proofs.Math.Bool.{or-false}
-use Rattle.std.proofs.lemmas.Bool.{cases_Bool, cases_eq, cases_lt, false≢true}
+use Rattle.std.proofs.lemmas.Bool.{cases_eq, cases_lt, false≢true}
 use Rattle.zd_base.specs.Geometry.{IsShape, Shape, per, zone_count}
 use Rattle.zd_base.specs.declared.layout.Layout.{Layout}
 use Rattle.zd_bits.specs.Bits.{IsBitRun}
-use Rattle.zd_model.specs.Tables.{Tables, is_set, is_valid}
+use Rattle.zd_model.specs.Tables.{is_set, is_valid}
 use Rattle.zd_model.proofs.FaultLaws.{or_right}
 use Rattle.zd_sets.specs.Blocks.{blocks_of}
 use Rattle.zd_tables.specs.Changes.{ChangesBits, Differs, bits_block}
@@ -133,7 +133,8 @@ marks_more a b c d e f first second between = record {
 
 module _ (g : Shape) (l : Layout) (shape : IsShape g) (from to : ℕ) (apart : to ≢ from) (to_low : to < zone_count g)
     (first mid end : ℕ) (early : first ≤ mid) (late : mid ≤ end) (inside : end ≤ g.zone_blocks) (a b c : List ℕ)
-    (d e f : List Bool) (one : JoinsBlocks g l from to first mid a b d e) (two : JoinsBlocks g l from to mid end b c e f)
+    (d e f : List Bool) (one : JoinsBlocks g l from to first mid a b d e)
+    (two : JoinsBlocks g l from to mid end b c e f)
   where
     -- a bit of a block that is as it was
     same_bit : (old new : List ℕ) (k x : ℕ) → x < end → bits_block g l to + x / 32768 ≡ k

@@ -15,4 +15,5 @@ pub mod NextRuns
 pub mod JobStarts
 pub mod CopySteps
 pub mod JoinSteps
+pub mod RemapBits
 pub mod RemapSteps

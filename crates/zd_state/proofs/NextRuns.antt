@@ -1,5 +1,5 @@
 -- The run that a job copies next, by the bits of its source.
-use Rattle.std.proofs.Common.{◌≡◌, ℕ, ◌+◌, ◌<◌, ◌≤◌, min, Bool, true, false, List, Option, Some, None, IfNone, inl, inr}
+use Rattle.std.proofs.Common.{◌≡◌, ℕ, ◌+◌, min, Bool, true, false, Option, Some, None, IfNone, inl, inr}
 use Rattle.std.proofs.Common.{sym, ap, ◌∙◌, arith}
 use Rattle.std.proofs.lemmas.Bool.{cases_Bool}
 use Rattle.zd_bits.specs.Bits.{AllAre, IsBitRun, IsFirstValid}

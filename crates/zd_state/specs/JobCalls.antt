@@ -26,11 +26,12 @@ pub record ResetsZone {T E : Type 0} (zone : ℕ) (result : Result T E) (u x : V
   pub cause : Fails result u x
 
 -- ONE WRITE of these bytes into a zone from this sector on, done or failed
-pub record WritesBytes {T E : Type 0} (zone start : ℕ) (bytes : List ℕ) (result : Result T E) (u x : View) : Type 0 where
-  pub call : Calls (λ r. WriteStep r zone start bytes) (λ r j. WriteLeaves r j zone start bytes) u x
-  pub ok : OnOk result (Turns (Wrote zone start bytes) u x)
-  pub err : OnErr result (Turns (λ i. WriteStep i zone start bytes i) u x)
-  pub cause : Fails result u x
+pub record WritesBytes {T E : Type 0} (zone start : ℕ) (bytes : List ℕ) (result : Result T E) (u x : View) : Type 0
+  where
+    pub call : Calls (λ r. WriteStep r zone start bytes) (λ r j. WriteLeaves r j zone start bytes) u x
+    pub ok : OnOk result (Turns (Wrote zone start bytes) u x)
+    pub err : OnErr result (Turns (λ i. WriteStep i zone start bytes i) u x)
+    pub cause : Fails result u x
 
 -- what a job takes when it begins, and where it begins to copy
 pub record StartsWork (from to : PlainVolume) (job : Job) (w : Work) : Type 0 where

@@ -10,5 +10,6 @@ returns-clause-value g c =
     c.read_front.ensures.size ∙ c.deref_mut.ensures.len in
     on_ok_weaker c.read_front.result
     (λ value i there.
-    ap (λ (xs : List ℕ). take (4096 * c.args.run.now.count) xs) (take_at c.read_front.new.into _ c.state.inside.buffer.len size)
+    ap (λ (xs : List ℕ). take (4096 * c.args.run.now.count) xs)
+    (take_at c.read_front.new.into _ c.state.inside.buffer.len size)
     ∙ IfSome-at _ i _ there value) c.read_front.ensures.value

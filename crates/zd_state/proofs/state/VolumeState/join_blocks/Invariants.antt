@@ -1,5 +1,5 @@
 -- So it is for the blocks before this one, and nothing else has changed.
-use Rattle.std.proofs.Common.{◌≡◌, ◌-◌, ◌≤◌, ℕ}
+use Rattle.std.proofs.Common.{◌≡◌, ◌-◌, ◌≤◌}
 use Rattle.zd_state.specs.Joins.{JoinsBlocks}
 use Rattle.zd_state.proofs.state.VolumeState.join_blocks.Given as goal
 

@@ -9,7 +9,8 @@ pub returns-clause-joins : goal.returns-clause-joins
 returns-clause-joins c =
     let v = c.args.self.now.plain in
     let run : IsBitRun (bits_in_blocks c.args.self.now.plain.geometry c.args.self.now.plain.head.layout
-    c.args.self.now.plain.fresh c.args.from) c.args.at c.args.self.now.plain.geometry.zone_blocks c.run_at-valid.result.0
+    c.args.self.now.plain.fresh c.args.from) c.args.at c.args.self.now.plain.geometry.zone_blocks
+    c.run_at-valid.result.0
     c.run_at-valid.result.1 =
     rw (← c.self.view_is) (rw (c.self.invariant, c.zone_blocks-end.ensures.value, c.geometry.ensures, ← c.self.view_is)
     at c.run_at-valid.ensures) in

@@ -2,7 +2,6 @@ use Rattle.std.proofs.Common.{◌≡◌, ◌∙◌, Some, ap, sym, arith}
 use Rattle.zd_jobs.specs.NextSteps.{IsCopied, source}
 use Rattle.zd_jobs.proofs.WorkLaws.{source_low}
 use Rattle.zd_model.specs.Tables.{entry_of}
-use Rattle.zd_model.specs.declared.metadata.MapEntry.{MapEntry}
 use Rattle.zd_volume.specs.Flights.{tables_now}
 use Rattle.zd_volume.specs.Jobs.{source_of}
 use Rattle.zd_state.proofs.NextRuns.{none_left, run_left, where_none}
@@ -27,7 +26,13 @@ returns-in_err-at-clause-none c =
     where_none c.from_residual-in_err-at.result (IsCopied v c.args.work.now)
     (none_left v c.args.work.now c.requires.fixed c.requires.job c.in_ok-zone.zone from
     (rw (← c.self.view_is)
-    (rw (c.bits-bits.ensures.value, c.zone_blocks-end.ensures.value, c.geometry.ensures, c.self.invariant, ← c.self.view_is) at
+    (rw (
+      c.bits-bits.ensures.value,
+      c.zone_blocks-end.ensures.value,
+      c.geometry.ensures,
+      c.self.invariant,
+      ← c.self.view_is,
+    ) at
     c.in_err-at.ensures.none)))
 
 pub returns-clause-some : goal.returns-clause-some
@@ -40,9 +45,17 @@ returns-clause-some c =
       run_left v c.args.work.now c.requires.fixed c.requires.job c.in_ok-zone.zone from c.in_ok-at.at c.min.result
           c.run_at-count.result.1 c.run_at-count.result.0
           (rw (← c.self.view_is)
-          (rw (c.bits-bits.ensures.value, c.zone_blocks-end.ensures.value, c.geometry.ensures, c.self.invariant, ← c.self.view_is) at
+          (rw (
+            c.bits-bits.ensures.value,
+            c.zone_blocks-end.ensures.value,
+            c.geometry.ensures,
+            c.self.invariant,
+            ← c.self.view_is,
+          ) at
           c.in_ok-at.ensures.some))
-          (let e = c.min.ensures in let end = rw c.geometry.ensures at c.zone_blocks-end.ensures.value in omega (arith, e, end))
+          (let least = c.min.ensures in
+          let end = rw c.geometry.ensures at c.zone_blocks-end.ensures.value in
+          omega (arith, least, end))
           (rw (← c.self.view_is)
           (rw (c.bits-bits.ensures.value, c.self.invariant) at c.run_at-count.ensures)),
       from,

@@ -1,4 +1,4 @@
-use Rattle.std.proofs.Common.{◌≡◌, Some, None, sym, subst, arith}
+use Rattle.std.proofs.Common.{◌≡◌, Some, sym, subst}
 use Rattle.zd_model.specs.Tables.{entry_of}
 use Rattle.zd_jobs.specs.JobSteps.{BeginsBy}
 use Rattle.zd_jobs.specs.Possible.{IsPossible}
@@ -30,7 +30,8 @@ returns-in-Append-clause-begins c =
     let v = c.args.self.now.plain in
     let names : c.entry-entry.result ≡ entry_of (tables_now v) c.args.job.now.chunk =
     rw (← c.self.view_is) (rw c.self.invariant at c.entry-entry.ensures) in
-    subst (λ (kind : JobKind). BeginsBy v kind (entry_of (tables_now v) c.args.job.now.chunk) (Some c.unwrap-zone.result)
+    subst (λ (kind : JobKind). BeginsBy v kind (entry_of (tables_now v) c.args.job.now.chunk)
+    (Some c.unwrap-zone.result)
     c.pointer.result v.division) (sym c.in-Append.is)
     (append_begins v c.args.job.now.chunk c.entry-entry.result names c.unwrap-zone.result c.pointer.result
     c.unwrap-zone.ensures c.pointer.ensures)

@@ -16,7 +16,8 @@ unwrap-run-requires g c =
     let job : c.args.self.now.plain.job ≡ Some c.unwrap-work.result = rw (← c.self.view_is) is in
     let now : IsNextOf c.args.self.now.plain c.unwrap-work.result StepKind.CopyRead =
     step_under_way c.args.self.now.plain c.unwrap-work.result StepKind.CopyRead c.requires.next job in
-    let next : IsNextOf c.self.inside.state.plain c.unwrap-work.result StepKind.CopyRead = rw (← c.self.view_is) at now in
+    let next : IsNextOf c.self.inside.state.plain c.unwrap-work.result StepKind.CopyRead =
+    rw (← c.self.view_is) at now in
     found_for_read v c.unwrap-work.result next c.next_run.result c.next_run.ensures.none
 
 pub read_ahead-requires-clause-zone : goal.read_ahead-requires-clause-zone
@@ -57,7 +58,8 @@ invariant_of-self-2 g c =
     let job : c.args.self.now.plain.job ≡ Some c.unwrap-work.result = rw (← c.self.view_is) is in
     let now : IsNextOf c.args.self.now.plain c.unwrap-work.result StepKind.CopyRead =
     step_under_way c.args.self.now.plain c.unwrap-work.result StepKind.CopyRead c.requires.next job in
-    let next : IsNextOf c.self.inside.state.plain c.unwrap-work.result StepKind.CopyRead = rw (← c.self.view_is) at now in
+    let next : IsNextOf c.self.inside.state.plain c.unwrap-work.result StepKind.CopyRead =
+    rw (← c.self.view_is) at now in
     kept_copy_read v c.note_read.new.self.plain c.unwrap-work.result c.unwrap-run.result.at c.unwrap-run.result.count
     (g.D.ZonedDisk.view c.self.inside.opening.value) (g.D.ZonedDisk.view c.self.inside.disk)
     (g.D.ZonedDisk.view c.read_ahead.new.disk) c.self.invariant is
@@ -78,7 +80,8 @@ returns-clause-ok g c =
     let job : c.args.self.now.plain.job ≡ Some c.unwrap-work.result = rw (← c.self.view_is) is in
     let now : IsNextOf c.args.self.now.plain c.unwrap-work.result StepKind.CopyRead =
     step_under_way c.args.self.now.plain c.unwrap-work.result StepKind.CopyRead c.requires.next job in
-    let next : IsNextOf c.self.inside.state.plain c.unwrap-work.result StepKind.CopyRead = rw (← c.self.view_is) at now in
+    let next : IsNextOf c.self.inside.state.plain c.unwrap-work.result StepKind.CopyRead =
+    rw (← c.self.view_is) at now in
     rw (← c.self.view_is) (
       c.unwrap-work.result,
       c.unwrap-run.result.at,

@@ -1,5 +1,4 @@
-use Rattle.std.proofs.Common.{◌≡◌, ◌*◌, Some, Ok, Err, ap, take}
-use Rattle.zd_base.specs.declared.numbers.Why.{Why}
+use Rattle.std.proofs.Common.{◌≡◌, ◌*◌, Some, ap, take}
 use Rattle.zd_base.specs.declared.steps.StepKind.{StepKind}
 use Rattle.zd_disk.proofs.ToldLaws.{OnErr-at, OnOk-at}
 use Rattle.zd_jobs.specs.NextSteps.{IsNextOf}
@@ -16,7 +15,8 @@ fill_copy-count-requires-clause-next g c =
     let job : c.args.self.now.plain.job ≡ Some c.unwrap-work.result = rw (← c.self.view_is) is in
     let now : IsNextOf c.args.self.now.plain c.unwrap-work.result StepKind.CopyWrite =
     step_under_way c.args.self.now.plain c.unwrap-work.result StepKind.CopyWrite c.requires.next job in
-    let next : IsNextOf c.self.inside.state.plain c.unwrap-work.result StepKind.CopyWrite = rw (← c.self.view_is) at now in
+    let next : IsNextOf c.self.inside.state.plain c.unwrap-work.result StepKind.CopyWrite =
+    rw (← c.self.view_is) at now in
     next
 
 pub put_copy-written-requires-clause-zone : goal.put_copy-written-requires-clause-zone
