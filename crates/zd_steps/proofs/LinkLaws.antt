@@ -116,28 +116,32 @@ heads_of pieces links heads all = record {
   own = λ c. (all.firsts c).own;
 }
 
--- the head of a caller goes on to its next piece
-pub heads_on : (pieces : List Piece) (heads : List ℕ) (caller j : ℕ) → AreHeads pieces heads → caller < 64
-    → IsFirstFrom pieces caller (head_in pieces heads caller + 1) j → AreHeads pieces (set heads caller j)
-heads_on pieces heads caller j are known next =
-    let known' : caller < length heads = (let size = are.count in omega (arith, size, known)) in
-    record {
-      count = length-set heads caller j ∙ are.count;
-      within = one_set pieces heads caller j known' (λ c n. n ≤ length pieces) next.within (λ c other. are.within c);
-      own = one_set pieces heads caller j known' (λ c n. (q : Piece) → slice_get pieces n ≡ Some q → q.caller ≡ c)
-          next.own (λ c other. are.own c);
-    }
+-- a caller's head goes on to its next piece, as the code reads the head and its link
+module _ (pieces : List Piece) (links heads : List ℕ) (linked : AreLinks pieces links) (are : AreHeads pieces heads)
+    (caller number j : ℕ) (is : number ≡ caller) (below : caller < 64) (some : head_in pieces heads caller < length pieces)
+    (read : j ≡ get_or links (get_or heads number 0) j) where
+  pub known : number < length heads
+  known = let size = are.count in omega (arith, size, is, below)
 
--- what the link at a caller's head leads to, as the code reads both
-pub link_read : (pieces : List Piece) (links heads : List ℕ) (caller place j : ℕ) → AreLinks pieces links
-    → AreHeads pieces heads → caller < 64 → place ≡ get_or heads caller 0
-    → head_in pieces heads caller < length pieces → j ≡ get_or links place j
-    → IsFirstFrom pieces caller (head_in pieces heads caller + 1) j
-link_read pieces links heads caller place j linked are known place_is inside j_is =
-    let head : ℕ = head_in pieces heads caller in
-    let same : place ≡ head = place_is ∙ get_or_default heads caller 0 (length pieces) (let size = are.count in omega (arith, size, known)) in
-    let at : slice_get pieces head ≡ Some (get_or pieces head nobody) = slice_get-get_or pieces head nobody inside in
-    let value : slice_index links head ≡ j =
-    get_or_default links head 0 j (let size = linked.count in omega (arith, size, inside)) ∙ ap (λ n. get_or links n j) (sym same) ∙ sym j_is in
-    subst (λ c. IsFirstFrom pieces c (head + 1) j) (are.own caller (get_or pieces head nobody) at)
-    (subst (IsFirstFrom pieces (get_or pieces head nobody).caller (head + 1)) value (linked.each head (get_or pieces head nobody) at))
+  inside : head_in pieces heads number < length pieces
+  inside = subst (λ n. head_in pieces heads n < length pieces) (sym is) some
+
+  pub next_first : IsFirstFrom pieces number (head_in pieces heads number + 1) j
+  next_first =
+      let head : ℕ = head_in pieces heads number in
+      let same : get_or heads number 0 ≡ head = get_or_default heads number 0 (length pieces) known in
+      let at : slice_get pieces head ≡ Some (get_or pieces head nobody) = slice_get-get_or pieces head nobody inside in
+      let value : slice_index links head ≡ j =
+          get_or_default links head 0 j (let size = linked.count in omega (arith, size, inside))
+          ∙ ap (λ n. get_or links n j) (sym same) ∙ sym read in
+      subst (λ c. IsFirstFrom pieces c (head + 1) j) (are.own number (get_or pieces head nobody) at)
+      (subst (IsFirstFrom pieces (get_or pieces head nobody).caller (head + 1)) value
+      (linked.each head (get_or pieces head nobody) at))
+
+  pub heads_on : AreHeads pieces (set heads number j)
+  heads_on = record {
+    count = length-set heads number j ∙ are.count;
+    within = one_set pieces heads number j known (λ c n. n ≤ length pieces) next_first.within (λ c other. are.within c);
+    own = one_set pieces heads number j known (λ c n. (q : Piece) → slice_get pieces n ≡ Some q → q.caller ≡ c)
+        next_first.own (λ c other. are.own c);
+  }

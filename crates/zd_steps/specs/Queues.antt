@@ -89,6 +89,9 @@ pub record QueueState : Type 0 where
   pub callers : Callers
   pub flights : List (Option Piece)
 
+abbrev pub queue_of : ℕ → Callers → List (Option Piece) → QueueState
+queue_of z callers flights = record { chunk_blocks = z; callers = callers; flights = flights }
+
 -- what is always true of one
 pub record IsQueue (z : ℕ) (h : Callers) (flights : List (Option Piece)) : Type 0 where
   pub script : IsScriptOf 64 h.pieces

@@ -1,15 +1,12 @@
 use Rattle.std.proofs.Common.{None, set, sym, subst}
-use Rattle.zd_steps.specs.Queues.{MayServe, QueueState}
+use Rattle.zd_steps.specs.Queues.{MayServe, QueueState, queue_of}
 use Rattle.zd_steps.proofs.KeptLaws.{entered_fly, same_flights, same_script}
 use Rattle.zd_steps.proofs.queue.Queue.enter.Goals as goal
 
 pub invariant_of-self : goal.invariant_of-self
 invariant_of-self c =
-    let q : QueueState = record {
-      chunk_blocks = c.self.inside.flights.chunk_blocks;
-      callers = c.self.inside.heads;
-      flights = c.self.inside.flights.pieces.items;
-    } in
+    let q : QueueState =
+        queue_of c.self.inside.flights.chunk_blocks c.self.inside.heads c.self.inside.flights.pieces.items in
     record {
       script = same_script c.self.inside.heads.pieces c.enter.new.self.pieces c.enter.ensures.pieces c.self.invariant.script;
       heads = c.enter.ensures.heads;

@@ -2,7 +2,7 @@ use Rattle.std.proofs.Common.{◌≡◌, ◌+◌, ◌++◌, List, sym, subst, ap
 use Rattle.std.proofs.lemmas.Option.{slice_get_within}
 use Rattle.zd_model.specs.History.{Mark}
 use Rattle.zd_model.specs.declared.requests.Piece.{Piece}
-use Rattle.zd_steps.specs.Queues.{HasEntered, QueueState, run_of}
+use Rattle.zd_steps.specs.Queues.{HasEntered, QueueState, queue_of, run_of}
 use Rattle.zd_steps.specs.Runs.{eligible_flushes}
 use Rattle.zd_steps.proofs.FlushLaws.{IsGathered, few_heads, gather_none, gather_one, one_gathered}
 use Rattle.zd_steps.proofs.queue.Queue.flushes.Goals as goal
@@ -14,11 +14,8 @@ loop-piece-init c =
     let none = c.clear.ensures.len in
     let few = few_heads 0 c.self.inside.heads.heads in
     let size = c.self.invariant.heads.count in
-    let q : QueueState = record {
-      chunk_blocks = c.self.inside.flights.chunk_blocks;
-      callers = c.self.inside.heads;
-      flights = c.self.inside.flights.pieces.items;
-    } in
+    let q : QueueState =
+        queue_of c.self.inside.flights.chunk_blocks c.self.inside.heads c.self.inside.flights.pieces.items in
     record {
       room = omega (arith, room, kept);
       from = 0;
@@ -57,11 +54,8 @@ loop-piece-preserved c =
     let room = i.room in
     let count = c.add.ensures.count in
     let kept = c.add.ensures.room in
-    let q : QueueState = record {
-      chunk_blocks = c.self.inside.flights.chunk_blocks;
-      callers = c.self.inside.heads;
-      flights = c.self.inside.flights.pieces.items;
-    } in
+    let q : QueueState =
+        queue_of c.self.inside.flights.chunk_blocks c.self.inside.heads c.self.inside.flights.pieces.items in
     record {
       room = omega (arith, room, kept);
       from = c.loop-piece.place + 1;
@@ -75,10 +69,7 @@ loop-piece-preserved c =
 pub returns-clause-list : goal.returns-clause-list
 returns-clause-list c =
     let i = c.loop-piece.invariant in
-    let q : QueueState = record {
-      chunk_blocks = c.self.inside.flights.chunk_blocks;
-      callers = c.self.inside.heads;
-      flights = c.self.inside.flights.pieces.items;
-    } in
+    let q : QueueState =
+        queue_of c.self.inside.flights.chunk_blocks c.self.inside.heads c.self.inside.flights.pieces.items in
     subst (λ (s : QueueState). (entered : List Mark) → HasEntered s.callers entered → c.loop-piece.list.items ≡ eligible_flushes (run_of s entered)) c.self.view_is
     (λ entered before. gather_none q c.self.invariant entered before c.loop-piece.list.items i.from c.loop-piece.place i.up i.least c.in_default.ensures (i.so_far entered before))

@@ -1,15 +1,12 @@
 use Rattle.std.proofs.Common.{Some, set, sym, subst}
-use Rattle.zd_steps.specs.Queues.{MayServe, QueueState}
+use Rattle.zd_steps.specs.Queues.{MayServe, QueueState, queue_of}
 use Rattle.zd_steps.proofs.KeptLaws.{flown_fly, same_flights}
 use Rattle.zd_steps.proofs.queue.Queue.fly.Goals as goal
 
 pub invariant_of-self : goal.invariant_of-self
 invariant_of-self c =
-    let q : QueueState = record {
-      chunk_blocks = c.self.inside.flights.chunk_blocks;
-      callers = c.self.inside.heads;
-      flights = c.self.inside.flights.pieces.items;
-    } in
+    let q : QueueState =
+        queue_of c.self.inside.flights.chunk_blocks c.self.inside.heads c.self.inside.flights.pieces.items in
     record {
       script = c.self.invariant.script;
       heads = c.self.invariant.heads;
