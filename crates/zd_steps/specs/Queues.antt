@@ -1,9 +1,11 @@
 -- The pieces of all callers, each caller's first that isn't entered, and what is in flight.
-use Rattle.std.specs.Prelude.{◌≡◌, ◌≢◌, ◌⊎◌, ℕ, ◌+◌, ◌<◌, ◌≤◌, Bool, true, false, not, ◌&&◌, ◌||◌, List, length, map, take, get_or}
+use Rattle.std.specs.Prelude.{◌≡◌, ◌≢◌, ◌⊎◌, ℕ, ◌+◌, ◌<◌, ◌≤◌, Bool, true, false, not, ◌&&◌, ◌||◌, List, length, map}
+use Rattle.std.specs.Prelude.{take, get_or}
 use Rattle.std.specs.Prelude.{slice_get, slice_index, slice_set, ◌++◌, ◌∷◌, [], Option, Some, None}
 use Rattle.zd_model.specs.History.{Mark, mark_of_piece, marks_of_caller}
 use Rattle.zd_model.specs.declared.requests.Piece.{Piece}
-use Rattle.zd_steps.specs.Runs.{Run, Standing, chunk_of, flies_in, flushes, is_held_in, is_ready, lacks_zone, reads, writes}
+use Rattle.zd_steps.specs.Runs.{Run, Standing, chunk_of, flies_in, flushes, is_held_in, is_ready, lacks_zone, reads}
+use Rattle.zd_steps.specs.Runs.{writes}
 
 -- p stands before q in the script
 abbrev pub Precedes : Piece → Piece → Type 0
@@ -88,6 +90,9 @@ pub record QueueState : Type 0 where
   pub chunk_blocks : ℕ
   pub callers : Callers
   pub flights : List (Option Piece)
+
+abbrev pub queue_of : ℕ → Callers → List (Option Piece) → QueueState
+queue_of z callers flights = record { chunk_blocks = z; callers = callers; flights = flights }
 
 -- what is always true of one
 pub record IsQueue (z : ℕ) (h : Callers) (flights : List (Option Piece)) : Type 0 where

@@ -27,15 +27,11 @@ pub struct Queue {
 }
 
 impl Model for Queue {
-    ghost use Rattle.zd_steps.specs.Queues.{IsQueue, QueueState};
+    ghost use Rattle.zd_steps.specs.Queues.{IsQueue, QueueState, queue_of};
 
     ghost Value = { QueueState };
 
-    ghost view = { λ q. record {
-      chunk_blocks = q.flights.chunk_blocks;
-      callers = q.heads;
-      flights = q.flights.pieces.items;
-    } };
+    ghost view = { λ q. queue_of q.flights.chunk_blocks q.heads q.flights.pieces.items };
 
     ghost invariant = { λ q. IsQueue q.flights.chunk_blocks q.heads q.flights.pieces.items };
 }

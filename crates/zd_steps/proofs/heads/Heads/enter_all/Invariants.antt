@@ -8,6 +8,8 @@ abbrev pub invariant-loop-piece : goal.invariant-loop-piece
 invariant-loop-piece l = record {
   pieces : l.self.pieces ≡ l.initial.self.pieces;
   heads : AreHeads l.self.pieces l.self.heads;
-  entered : (marks : List Mark) → HasEntered l.initial.self marks → HasEntered l.self (marks ++ map mark_of_piece (take l.piece-index l.list));
-  others : (c : ℕ) → ((k : ℕ) (p : Piece) → k < l.piece-index → slice_get l.list k ≡ Some p → p.caller ≢ c) → first_of l.self c ≡ first_of l.initial.self c;
+  entered : (marks : List Mark) → HasEntered l.initial.self marks → HasEntered l.self
+      (marks ++ map mark_of_piece (take l.piece-index l.list));
+  others : (c : ℕ) → ((k : ℕ) (p : Piece) → k < l.piece-index → slice_get l.list k ≡ Some p → p.caller ≢ c)
+      → first_of l.self c ≡ first_of l.initial.self c;
 }
