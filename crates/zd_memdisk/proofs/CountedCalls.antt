@@ -1,5 +1,5 @@
 -- Events counted while a record is walked from its front.
-use Rattle.std.proofs.Common.{◌≡◌, ℕ, ◌+◌, ◌-◌, ◌<◌, ◌≤◌, List, [], ◌∷◌, length, take, drop, refl, sym, ap, ap₂, ◌∙◌, arith}
+use Rattle.std.proofs.Common.{◌≡◌, ℕ, ◌+◌, ◌-◌, ◌<◌, List, [], ◌∷◌, length, take, drop, refl, sym, ap, ap₂, ◌∙◌, arith}
 use Rattle.zd_model.specs.Left.{Call, Event, asked_of, under_way}
 use Rattle.zd_memdisk.specs.Calls.{byte_count, calls_of, total_bytes}
 use Rattle.zd_memdisk.specs.Events.{Done, after_all, after_done, call_at, done_by}

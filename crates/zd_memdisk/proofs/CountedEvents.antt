@@ -1,11 +1,11 @@
 -- Events counted one call after another.
-use Rattle.std.proofs.Common.{◌≡◌, ◌≢◌, ℕ, zero, suc, ◌+◌, ◌*◌, ◌<◌, ◌≤◌, List, [], ◌∷◌, ◌++◌, length, refl, sym, ap}
+use Rattle.std.proofs.Common.{◌≡◌, ◌≢◌, ℕ, zero, suc, ◌+◌, ◌<◌, ◌≤◌, List, [], ◌∷◌, ◌++◌, length, refl, ap}
 use Rattle.std.proofs.Common.{◌∙◌, inl, inr, arith}
 use Rattle.std.specs.Prelude.{filter}
 use Rattle.std.proofs.lemmas.Bool.{cases_eq}
 use Rattle.std.proofs.lemmas.List.{length-append}
 use Rattle.std.proofs.lemmas.List.Elements.{filter-append}
-use Rattle.zd_model.specs.Left.{Event, Call, on_zone, zone_of}
+use Rattle.zd_model.specs.Left.{Event, on_zone, zone_of}
 use Rattle.zd_model.specs.Left.Event.{Put, Clear}
 use Rattle.zd_model.proofs.EventLaws.{same_test, other_test}
 use Rattle.zd_disk.specs.Growth.{puts}

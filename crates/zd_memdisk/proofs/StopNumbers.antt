@@ -1,10 +1,10 @@
 -- The numbers that choices may name at a stop of a disk.
-use Rattle.std.proofs.Common.{◌≡◌, ◌↔◌, ◌⊎◌, ℕ, ◌+◌, ◌<◌, ◌≤◌, List, [], ◌++◌, length, take, sym, ap, ap₂, ◌∙◌, inl, inr, arith, subst}
+use Rattle.std.proofs.Common.{◌≡◌, ℕ, ◌+◌, ◌<◌, ◌≤◌, List, [], ◌++◌, length, take, sym, ap, ◌∙◌, inr, arith}
 use Rattle.zd_base.specs.Geometry.{Shape, zone_count, zone_sectors}
 use Rattle.zd_model.specs.Image.{Image}
 use Rattle.zd_model.specs.Left.{Call, Since, on_zone}
 use Rattle.zd_model.proofs.LeftLaws.{flushed_geometry, geometry-now}
-use Rattle.zd_memdisk.specs.Choices.{Moment, IsSectorThere, IsZoneThere, moment_at, values_put}
+use Rattle.zd_memdisk.specs.Choices.{Moment, moment_at, values_put}
 use Rattle.zd_memdisk.specs.DiskChoices.{disk_moment}
 use Rattle.zd_memdisk.specs.Disks.{disk_beginning, disk_calls, disk_geometry, disk_history}
 use Rattle.zd_memdisk.specs.Events.{done_by}

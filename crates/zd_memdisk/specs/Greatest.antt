@@ -1,5 +1,5 @@
 -- The greatest numbers that choices may name: how many events there are of a sector or a zone.
-use Rattle.std.specs.Prelude.{◌≡◌, ℕ, ◌+◌, ◌≤◌, ◌==◌, ◌&&◌, Bool, false, List, length, filter}
+use Rattle.std.specs.Prelude.{ℕ, ◌+◌, ◌==◌, ◌&&◌, Bool, false, List, length, filter}
 use Rattle.zd_model.specs.Left.{Call, Event, under_way, zone_of}
 use Rattle.zd_model.specs.Left.Event.{Put, Clear}
 use Rattle.zd_memdisk.specs.Events.{done_by}

@@ -3,9 +3,6 @@
 ghost use Rattle.std.specs.Prelude.{IfNone, IfSome};
 ghost use Rattle.zd_memdisk.specs.Numbers.{HasNoPrefix, HasNoValue, HasPrefixesUpTo, HasValuesUpTo};
 
-#[cfg(test)]
-mod tests;
-
 use super::MemDisk;
 use crate::greatest::EventsOf;
 use zd_base::ZoneNo;

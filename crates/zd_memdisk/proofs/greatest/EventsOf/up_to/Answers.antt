@@ -1,4 +1,4 @@
-use Rattle.std.proofs.Common.{◌≡◌, ℕ, ◌+◌, ◌≤◌, List, [], ◌∷◌, length, drop, ap, subst, arith}
+use Rattle.std.proofs.Common.{◌≡◌, ◌+◌, ◌≤◌, List, [], length, drop, ap, subst, arith}
 use Rattle.std.proofs.lemmas.List.{at_drop_all}
 use Rattle.zd_memdisk.specs.Calls.{byte_count, total_bytes}
 use Rattle.zd_memdisk.specs.Events.{AreFit}

@@ -1,4 +1,4 @@
-use Rattle.std.proofs.Common.{◌≡◌, ap, ◌∙◌, inl, arith}
+use Rattle.std.proofs.Common.{ap, ◌∙◌, inl, arith}
 use Rattle.zd_base.specs.Geometry.{Shape, zone_count}
 use Rattle.zd_memdisk.specs.declared.store.Store.{Store}
 use Rattle.zd_memdisk.proofs.StopNumbers.{no_sequential, no_such_zone, prefixes_to}

@@ -1,6 +1,5 @@
-use Rattle.std.proofs.Common.{◌≡◌, ap, ◌∙◌, inl, arith}
+use Rattle.std.proofs.Common.{ap, ◌∙◌, inl, arith}
 use Rattle.zd_base.specs.Geometry.{Shape, zone_sectors}
-use Rattle.zd_memdisk.specs.Disks.{disk_geometry}
 use Rattle.zd_memdisk.specs.declared.store.Store.{Store}
 use Rattle.zd_memdisk.proofs.StopNumbers.{no_sector, no_zone, values_to}
 use Rattle.zd_memdisk.proofs.memory.MemDisk.values.Goals as goal
