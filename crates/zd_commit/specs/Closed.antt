@@ -50,6 +50,7 @@ StopsCommitting from to Why.Memory = ⊥
 pub record IsInCommit (from to : PlainVolume) (u v : View) : Type 0 where
   pub rest : to ≡ after_phase from to.phase to.since from.stopped
   pub begun : to.phase ≡ Idle → to ≡ from
+  pub only : IsLastCall true from.phase from.dirty → to ≡ from
   pub stays : Stays u v
   pub left : v.calls < 2 ^ 64 - 1 →
       v.calls + calls_left to.dirty to.phase ≡ u.calls + calls_left from.dirty from.phase

@@ -10,6 +10,7 @@ pub mod WorkLaws
 pub mod KeptReads
 pub mod CopyBytes
 pub mod CopyPlaces
+pub mod CallPlaces
 pub mod FixedCopies
 pub mod KeptCopies
 pub mod EndZones
