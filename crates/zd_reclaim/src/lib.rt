@@ -1,0 +1,17 @@
+//! Reclaim: which job is possible, which one is picked, when one is due, and its steps.
+//!
+//! # What is proved
+//!
+//! - `possible` is exactly the job that is possible on a chunk, and `pick` exactly the one that is picked: the first in
+//!   use order that gives a conventional zone back, else the first Merge, else the first Empty. Both are read off the
+//!   index of candidates; neither looks over the chunks.
+//! - `due` says exactly whether a job is due.
+//! - Where a conventional zone is wanted and no zone is in limbo, some job is possible (`never_stuck`): reclaim is never
+//!   stuck.
+#![tactic(auto)]
+
+mod choice;
+mod when;
+
+pub use choice::{never_stuck, pick, possible};
+pub use when::due;
