@@ -1,2 +1,3 @@
 pub mod Picks
 pub mod Due
+pub mod Works

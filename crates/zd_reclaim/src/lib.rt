@@ -6,12 +6,15 @@
 //!   use order that gives a conventional zone back, else the first Merge, else the first Empty. Both are read off the
 //!   index of candidates; neither looks over the chunks.
 //! - `due` says exactly whether a job is due.
+//! - `step` makes exactly the step of a job that comes next, by one call of the disk or none, and answers its kind.
 //! - Where a conventional zone is wanted and no zone is in limbo, some job is possible (`never_stuck`): reclaim is never
 //!   stuck.
 #![tactic(auto)]
 
 mod choice;
+mod run;
 mod when;
 
 pub use choice::{never_stuck, pick, possible};
+pub use run::step;
 pub use when::due;
