@@ -173,8 +173,13 @@ fn calls_of<D: ZonedDisk>(volume: &Volume<D>) -> u64 {
 }
 
 /// Writes so many blocks of a volume, and closes it.
-fn write_volume<D: ZonedDisk>(mut volume: Volume<D>, alloc: Global, writes: u32, stride: u64) -> Done {
-    if volume.reserve(alloc, writes as usize, 1).is_err() {
+fn write_volume<D: ZonedDisk>(
+    mut volume: Volume<D>,
+    alloc: Global,
+    writes: u32,
+    stride: u64,
+) -> Done {
+    if volume.reserve(writes as usize, 1).is_err() {
         return without_calls(0);
     }
     let blocks = u64::from(volume.layout().chunks) * u64::from(volume.geometry().zone_blocks());

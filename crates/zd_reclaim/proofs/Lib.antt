@@ -4,5 +4,6 @@ pub mod OrderPlaces
 pub mod FirstJobs
 pub mod PossibleHere
 pub mod PickedJobs
+pub mod WorkedSteps
 pub mod NamedChunks
 pub mod NeverStuck
