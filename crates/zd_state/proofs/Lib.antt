@@ -13,3 +13,6 @@ pub mod PromotionSteps
 pub mod ClosedLaws
 pub mod NextRuns
 pub mod JobStarts
+pub mod CopySteps
+pub mod JoinSteps
+pub mod RemapSteps

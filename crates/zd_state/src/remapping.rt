@@ -52,6 +52,7 @@ impl VolumeState {
           };
         } }
     {
+        let _fits = self.tables.layout();
         let end = self.geometry().zone_blocks();
         let (valid, count) = self.tables.run_at(from, at, end);
         if valid {
@@ -112,6 +113,13 @@ impl VolumeState {
         leaving(work.job.kind, &self.tables.entry(work.job.chunk)).unwrap()
     }
 
+    /// No job is under way any more.
+    fn drop_job(&mut self)
+        ensures { self.new ≡ record self.old { plain = record self.old.plain { job = None } } }
+    {
+        self.job = None;
+    }
+
     /// Ends the job under way, whose blocks are all copied.
     fn end_job(&mut self, work: &Work)
         requires fixed { IsFixed self.old.plain }
@@ -132,7 +140,7 @@ impl VolumeState {
         self.join_into(zone, work.target);
         self.give_blocks(Some(zone), 0, blocks, false);
         self.release(zone);
-        self.job = None;
+        self.drop_job();
         self.reclass(work.job.chunk);
     }
 }
