@@ -5,5 +5,6 @@ pub mod FirstJobs
 pub mod PossibleHere
 pub mod PickedJobs
 pub mod WorkedSteps
+pub mod PickRows
 pub mod NamedChunks
 pub mod NeverStuck

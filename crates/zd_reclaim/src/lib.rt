@@ -12,6 +12,7 @@
 #![tactic(auto)]
 
 mod choice;
+pub mod rows;
 mod run;
 mod when;
 
