@@ -1,5 +1,5 @@
 -- What the class of a chunk says of the job that is possible there.
-use Rattle.std.proofs.Common.{◌≡◌, ◌≢◌, ◌⊎◌, inl, inr, ℕ, ◌<◌, Bool, true, false, cond, List, Option, Some, None, refl, sym, ap, ◌∙◌, subst, arith}
+use Rattle.std.proofs.Common.{◌≡◌, ◌⊎◌, inl, inr, ℕ, ◌<◌, Bool, true, false, cond, List, Option, Some, None, refl, sym, ap, ◌∙◌, subst, arith}
 use Rattle.std.proofs.lemmas.Bool.{ltb-true, lt-ltb, true≢false}
 use Rattle.std.specs.Option.{is_some}
 use Rattle.std.specs.Prelude.{nat_le, nat_lt, slice_index}
@@ -126,7 +126,7 @@ module _ (v : PlainVolume) (chunk : ℕ) where
     z,
     zone,
     ltb-true z v.geometry.conv
-    (append_alone (nat_lt z v.geometry.conv) (first_valid_block v.geometry.zone_blocks (tables_now v) z) given),
+        (append_alone (nat_lt z v.geometry.conv) (first_valid_block v.geometry.zone_blocks (tables_now v) z) given),
   )
 
   -- that of an Empty's isn't conventional
@@ -155,7 +155,9 @@ module _ (v : PlainVolume) (chunk : ℕ) where
   pub giving_class : (kind : JobKind) → kind_on v chunk ≡ Some kind → GivesConventional v kind chunk
       → (class_in v.geometry v.pointers (tables_now v) chunk ≡ Some classes.Append)
       ⊎ ((kind ≡ Move) × (class_in v.geometry v.pointers (tables_now v) chunk ≡ Some classes.Move))
-  giving_class kind is gives = (let back = from_kind class (is_some e.buffer) kind (kind_is ∙ is) in by back.0 back.1 back.2)
+  giving_class kind is gives =
+      let back = from_kind class (is_some e.buffer) kind (kind_is ∙ is) in
+      by back.0 back.1 back.2
     where
       by : (c : JobClass) → class ≡ Some c → kind_of_class c (is_some e.buffer) ≡ kind
           → (class ≡ Some classes.Append) ⊎ ((kind ≡ Move) × (class ≡ Some classes.Move))

@@ -1,5 +1,5 @@
 -- The first job in the use order, by a test of chunks that finds it.
-use Rattle.std.proofs.Common.{◌≡◌, ◌≢◌, ◌⊎◌, inl, inr, ℕ, zero, suc, ◌+◌, ◌<◌, ◌≤◌, Bool, true, false, cond, List, [], ◌∷◌, length, Option, Some, None, refl, sym, ap, ◌∙◌, subst, IfNone, IfSome, arith}
+use Rattle.std.proofs.Common.{◌≡◌, ◌⊎◌, inl, inr, ℕ, zero, suc, ◌<◌, Bool, true, false, cond, List, [], ◌∷◌, length, Option, Some, None, refl, sym, ◌∙◌, subst, IfNone, IfSome, arith}
 use Rattle.std.proofs.lemmas.Bool.{false≢true}
 use Rattle.std.specs.List.{find, slice_get}
 use Rattle.zd_alloc.specs.Candidates.{IsOldestSuch}
@@ -74,8 +74,7 @@ module _ (v : PlainVolume) (fixed : IsFixed v) (Such : Job → Type 0) (p : ℕ 
       → (kind : JobKind) × IsFirstJob v Such (record { kind = kind; chunk = c })
   first_job c found inside =
       let at = found_at p v.division.order c (sym found) in
-      let one = some c inside at.passes in
-      (
+      let one = some c inside at.passes in (
         one.0,
         record {
           possible = one.1;

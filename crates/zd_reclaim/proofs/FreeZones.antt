@@ -1,5 +1,5 @@
 -- A sequential zone is free where one counts.
-use Rattle.std.proofs.Common.{◌≡◌, ◌⊎◌, inl, inr, ℕ, zero, suc, ◌+◌, ◌-◌, ◌<◌, ◌≤◌, Bool, true, false, cond, nat_lt, List, [], ◌∷◌, length, get_or, drop, count_by, refl, sym, ap, ◌∙◌, arith}
+use Rattle.std.proofs.Common.{◌≡◌, ◌⊎◌, inl, inr, ℕ, suc, ◌+◌, ◌-◌, ◌<◌, Bool, true, false, cond, nat_lt, List, [], ◌∷◌, length, count_by, refl, sym, ap, ◌∙◌, arith}
 use Rattle.std.proofs.lemmas.List.{get_or-drop, get_or_past}
 use Rattle.std.proofs.lemmas.List.Sums.{get_or-le-sum_by, sum_by-cons}
 use Rattle.std.proofs.lemmas.Bool.{cases_lt, lt-ltb, ltb-true, true≢false}
@@ -12,7 +12,8 @@ use Rattle.zd_jobs.specs.Possible.{HasFreeSequential}
 abbrev tally : ZoneUse → ℕ
 tally u = cond (is_free u) 1 0
 
-later : (u : ZoneUse) (zones : List ZoneUse) → (z : ℕ) × (use_at zones z ≡ Free) → (z : ℕ) × (use_at (u ∷ zones) z ≡ Free)
+later : (u : ZoneUse) (zones : List ZoneUse) → (z : ℕ) × (use_at zones z ≡ Free)
+    → (z : ℕ) × (use_at (u ∷ zones) z ≡ Free)
 later u zones rest = (suc rest.0, rest.1)
 
 -- where one counts there is one

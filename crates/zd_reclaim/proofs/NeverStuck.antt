@@ -1,11 +1,11 @@
 -- Where no conventional zone is free and no zone is in limbo, some job is possible.
-use Rattle.std.proofs.Common.{◌≡◌, ◌≢◌, ◌⊎◌, inl, inr, ℕ, ◌+◌, ◌-◌, ◌<◌, ◌≤◌, Bool, true, false, cond, List, length, Option, Some, None, refl, sym, ap, ap₂, ◌∙◌, subst, arith}
+use Rattle.std.proofs.Common.{◌≡◌, ◌≢◌, inl, inr, ℕ, ◌-◌, ◌<◌, ◌≤◌, Bool, true, false, cond, Option, Some, None, refl, sym, ap, ap₂, ◌∙◌, subst, arith}
 use Rattle.std.proofs.lemmas.Bool.{cases_lt, lt-ltb}
-use Rattle.std.specs.Prelude.{IsSomeAnd, nat_le, nat_lt, slice_index}
+use Rattle.std.specs.Prelude.{IsSomeAnd, nat_le, slice_index}
 use Rattle.zd_base.specs.Geometry.{zone_count}
 use Rattle.zd_base.specs.Layout.{first_data_zone}
 use Rattle.zd_base.specs.declared.geometry.Kind.TheVariants.{Conventional}
-use Rattle.zd_alloc.specs.Zones.{Division, HasNoFree, use_at}
+use Rattle.zd_alloc.specs.Zones.{HasNoFree, use_at}
 use Rattle.zd_alloc.specs.declared.uses.ZoneUse.{ZoneUse}
 use Rattle.zd_alloc.specs.declared.uses.ZoneUse.TheVariants.{Meta, Free, Held, Limbo}
 use Rattle.zd_model.proofs.FaultLaws.{none_some}
@@ -17,7 +17,6 @@ use Rattle.zd_volume.specs.Flights.{tables_now}
 use Rattle.zd_volume.specs.Jobs.{IsNamed, IsTarget}
 use Rattle.zd_volume.specs.Volumes.{IsFixed, PlainVolume}
 use Rattle.zd_volume.specs.declared.work.Job.{Job}
-use Rattle.zd_volume.specs.declared.work.JobKind.{JobKind}
 use Rattle.zd_volume.specs.declared.work.JobKind.TheVariants.{Empty, Move, Append, Merge}
 use Rattle.zd_volume.specs.declared.work.Work.{Work}
 use Rattle.zd_jobs.specs.Possible.{HasFreeSequential, IsPossible, kind_alone, kind_buffered, kind_by, kind_on}
@@ -56,8 +55,8 @@ module _ (v : PlainVolume) (fixed : IsFixed v) where
   -- a buffered chunk has a job
   buffered_job : (c z b : ℕ) → c < v.head.layout.chunks → (entry c).zone ≡ Some z → (entry c).buffer ≡ Some b → HasJob v
   buffered_job c z b there zone buffer =
-      let kind = kind_buffered (first_valid_block v.geometry.zone_blocks (tables_now v) b) (slice_index v.pointers z) in
-      (
+      let first = first_valid_block v.geometry.zone_blocks (tables_now v) b in
+      let kind = kind_buffered first (slice_index v.pointers z) in (
         record { kind = kind; chunk = c },
         record {
           there = there;

@@ -1,5 +1,5 @@
 -- Each chunk has a place in the use order.
-use Rattle.std.proofs.Common.{◌≡◌, ◌≢◌, ◌⊎◌, inl, inr, ℕ, zero, suc, ◌+◌, ◌<◌, ◌≤◌, Bool, true, false, List, [], ◌∷◌, length, get_or, Option, Some, None, refl, sym, ap, ◌∙◌, subst, arith}
+use Rattle.std.proofs.Common.{◌≡◌, ◌≢◌, inl, inr, ℕ, zero, suc, ◌+◌, ◌<◌, ◌≤◌, List, [], ◌∷◌, length, get_or, Some, refl, ap, arith}
 use Rattle.std.proofs.lemmas.Bool.{cases_eq, not-true, eqb-false}
 use Rattle.std.proofs.lemmas.Bool.Decides.{nat_tests}
 use Rattle.std.proofs.lemmas.List.Elements.{All-filter, filter_passes}
@@ -35,14 +35,14 @@ few_places (suc n) xs inside once =
     let one = once n (omega arith) in
     let rest = few_places n (without n xs)
     (λ k d low.
-        let below = All-filter (is_other n) (λ (c : ℕ). c < suc n) xs inside k d low in
-        let off = eqb-false (get_or (without n xs) k d) n (not-true _ (filter_passes (is_other n) xs k d low)) in
-        omega (arith, below, off))
+    let below = All-filter (is_other n) (λ (c : ℕ). c < suc n) xs inside k d low in
+    let off = eqb-false (get_or (without n xs) k d) n (not-true _ (filter_passes (is_other n) xs k d low)) in
+    omega (arith, below, off))
     (λ c low.
-        let off : c ≢ n = λ is. omega (arith, is, low) in
-        let same = times_rest n c xs off in
-        let most = once c (omega (arith, low)) in
-        omega (arith, same, most)) in
+    let off : c ≢ n = λ is. omega (arith, is, low) in
+    let same = times_rest n c xs off in
+    let most = once c (omega (arith, low)) in
+    omega (arith, same, most)) in
     omega (arith, size, one, rest)
 
 -- A CHUNK of as many as the order has stands in it
@@ -61,8 +61,8 @@ many_places a (suc n) xs all =
     let size = length-without (a + n) xs in
     let one = all (a + n) (omega arith) (omega arith) in
     let rest = many_places a n (without (a + n) xs) (λ z low less.
-        let off : z ≢ a + n = λ is. omega (arith, is, less) in
-        let same = times_rest (a + n) z xs off in
-        let some = all z low (omega (arith, less)) in
-        omega (arith, same, some)) in
+    let off : z ≢ a + n = λ is. omega (arith, is, less) in
+    let same = times_rest (a + n) z xs off in
+    let some = all z low (omega (arith, less)) in
+    omega (arith, same, some)) in
     omega (arith, size, one, rest)

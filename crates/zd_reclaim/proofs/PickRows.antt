@@ -1,5 +1,5 @@
 -- Which of two jobs is picked.
-use Rattle.std.proofs.Common.{◌≡◌, ◌⊎◌, inl, inr, ℕ, zero, suc, ◌+◌, ◌<◌, List, [], ◌∷◌, Option, Some, None, refl, sym, ap, ap₂, ◌∙◌, subst, arith}
+use Rattle.std.proofs.Common.{◌≡◌, ◌⊎◌, inl, inr, ℕ, zero, suc, ◌<◌, List, Option, Some, None, refl, sym, ap, ap₂, ◌∙◌, subst, arith}
 use Rattle.std.specs.List.{slice_get}
 use Rattle.zd_model.proofs.FaultLaws.{some_is}
 use Rattle.zd_volume.specs.Volumes.{PlainVolume}
@@ -7,7 +7,7 @@ use Rattle.zd_volume.specs.declared.work.Job.{Job}
 use Rattle.zd_volume.specs.declared.work.JobKind.{JobKind}
 use Rattle.zd_volume.specs.declared.work.JobKind.TheVariants.{Empty, Move, Append, Merge}
 use Rattle.zd_jobs.specs.Possible.{HasFreeSequential, IsPossible, kind_on}
-use Rattle.zd_reclaim.specs.Picks.{GivesConventional, HasNoJob, IsFirstJob, IsGiving, IsMerge, IsOnConventional, IsPick}
+use Rattle.zd_reclaim.specs.Picks.{GivesConventional, IsFirstJob, IsGiving, IsMerge, IsOnConventional, IsPick}
 use Rattle.zd_reclaim.specs.Rows.{HasTwoJobs, job_of}
 use Rattle.zd_reclaim.proofs.ClassKinds.{some_same}
 
@@ -22,7 +22,8 @@ no_kind_here kind is = cc
 module _ (v : PlainVolume) (oldest other : ℕ) (on_0 on_1 : Option JobKind)
     (two : HasTwoJobs v oldest other on_0 on_1) where
   -- the job that is possible on one of the chunks
-  kind_of_two : (c : ℕ) (kind : JobKind) → IsPossible v c kind → ((c ≡ 0) × (on_0 ≡ Some kind)) ⊎ ((c ≡ 1) × (on_1 ≡ Some kind))
+  kind_of_two : (c : ℕ) (kind : JobKind) → IsPossible v c kind
+      → ((c ≡ 0) × (on_0 ≡ Some kind)) ⊎ ((c ≡ 1) × (on_1 ≡ Some kind))
   kind_of_two c kind possible =
       let there = possible.there in
       let count = two.chunks in
@@ -59,7 +60,7 @@ module _ (v : PlainVolume) (oldest other : ℕ) (on_0 on_1 : Option JobKind)
     first = λ before job low at is does.
         let start : before ≡ 0 = omega (arith, low) in
         none job (sym (some_is oldest job.chunk
-            (sym first_place ∙ ap (slice_get v.division.order) (sym start) ∙ at))) is does;
+        (sym first_place ∙ ap (slice_get v.division.order) (sym start) ∙ at))) is does;
   }
 
 possible_here : (v : PlainVolume) (c : ℕ) (kind : JobKind) → c < v.head.layout.chunks → kind_on v c ≡ Some kind
@@ -83,9 +84,9 @@ module _ (v : PlainVolume) where
       inl (second_of_two v 0 1 (Some Merge) (Some Move) two (IsGiving v) Move
       (possible_here v 1 Move low two.one (λ _. free)) tt
       (λ job at possible gives.
-          let merge : job.kind ≡ Merge =
-          some_same job.kind Merge (sym possible.is_kind ∙ ap (kind_on v) at ∙ two.zero) in
-          subst (λ (k : JobKind). GivesConventional v k job.chunk) merge gives))
+      let merge : job.kind ≡ Merge =
+      some_same job.kind Merge (sym possible.is_kind ∙ ap (kind_on v) at ∙ two.zero) in
+      subst (λ (k : JobKind). GivesConventional v k job.chunk) merge gives))
 
   -- where nothing gives a conventional zone back, the Merge is picked
   merge_row : (other : JobKind) (two : HasTwoJobs v 1 0 (Some Merge) (Some other)) → (other ≡ Merge → ⊥)
@@ -102,8 +103,8 @@ module _ (v : PlainVolume) where
               (subst (λ (j : Job). GivesConventional v j.kind j.chunk) same gives)
         ]),
         second_of_two v 1 0 (Some Merge) (Some other) two IsMerge Merge
-        (possible_here v 0 Merge low two.zero (λ move. absurd (let f : ⊥ = cc in f))) refl
-        (λ job at possible merge.
+            (possible_here v 0 Merge low two.zero (λ move. absurd (let f : ⊥ = cc in f))) refl
+            (λ job at possible merge.
             off (some_same other Merge
             (sym two.one ∙ ap (kind_on v) (sym at) ∙ possible.is_kind ∙ ap (λ (k : JobKind). Some k) merge))),
       ))

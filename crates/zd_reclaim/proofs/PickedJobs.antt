@@ -1,5 +1,5 @@
 -- The job that is picked, by the index of candidates.
-use Rattle.std.proofs.Common.{◌≡◌, ◌≢◌, ◌⊎◌, inl, inr, ℕ, ◌<◌, Bool, true, false, List, length, Option, Some, None, IfNone, IfSome, refl, sym, ap, ap₂, ◌∙◌, subst, arith}
+use Rattle.std.proofs.Common.{◌≡◌, inl, inr, ℕ, ◌<◌, Bool, true, false, length, Option, Some, None, IfNone, IfSome, refl, sym, ap, ap₂, ◌∙◌, subst}
 use Rattle.std.proofs.lemmas.Bool.{false≢true, or_cases, or_left, or_right}
 use Rattle.std.specs.Option.{is_some}
 use Rattle.zd_alloc.specs.Candidates.{IsOldestSuch, Standings, class_of, has_class, has_either, is_class}
@@ -12,7 +12,7 @@ use Rattle.zd_volume.specs.Volumes.{IsFixed, PlainVolume}
 use Rattle.zd_volume.specs.declared.work.Job.{Job}
 use Rattle.zd_volume.specs.declared.work.JobKind.{JobKind}
 use Rattle.zd_volume.specs.declared.work.JobKind.TheVariants.{Empty, Move, Append, Merge}
-use Rattle.zd_jobs.specs.Possible.{HasFreeSequential, IsPossible, kind_on}
+use Rattle.zd_jobs.specs.Possible.{HasFreeSequential, IsPossible}
 use Rattle.zd_reclaim.specs.Picks.{GivesConventional, HasNoJob, IsEmpty, IsFirstJob, IsGiving, IsMerge, IsPick, kind_of_class}
 use Rattle.zd_reclaim.proofs.ClassKinds.{append_gives, class_kind, empty_class, giving_class, merge_class, some_same}
 use Rattle.zd_reclaim.proofs.FirstJobs.{job_found, none_found}
@@ -84,8 +84,7 @@ module _ (v : PlainVolume) (fixed : IsFixed v) where
       → (kind : JobKind) × IsPossible v c kind × IsGiving v (of kind c)
   append_job c low passes =
       let class = has_is classes.Append c low passes in
-      let buffered = is_some (entry_of (tables_now v) c).buffer in
-      (
+      let buffered = is_some (entry_of (tables_now v) c).buffer in (
         kind_of_class classes.Append buffered,
         record {
           there = low;

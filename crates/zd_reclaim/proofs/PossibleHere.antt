@@ -1,5 +1,5 @@
 -- The job that is possible on a chunk, by its class.
-use Rattle.std.proofs.Common.{◌≡◌, ◌≢◌, ℕ, ◌<◌, Bool, true, false, Option, Some, None, refl, sym, ap, ◌∙◌, subst}
+use Rattle.std.proofs.Common.{◌≡◌, ℕ, ◌<◌, Bool, true, false, Option, Some, None, refl, sym, ap, ◌∙◌}
 use Rattle.std.specs.Option.{is_some}
 use Rattle.zd_alloc.specs.Candidates.{Standings, class_of}
 use Rattle.zd_alloc.specs.declared.job_class.JobClass.{JobClass}
@@ -10,8 +10,8 @@ use Rattle.zd_volume.specs.Flights.{tables_now}
 use Rattle.zd_volume.specs.Jobs.{class_in}
 use Rattle.zd_volume.specs.Volumes.{IsFixed, PlainVolume}
 use Rattle.zd_volume.specs.declared.work.JobKind.{JobKind}
-use Rattle.zd_volume.specs.declared.work.JobKind.TheVariants.{Empty, Move, Append, Merge}
-use Rattle.zd_jobs.specs.Possible.{HasFreeSequential, IsPossible, kind_on}
+use Rattle.zd_volume.specs.declared.work.JobKind.TheVariants.{Move}
+use Rattle.zd_jobs.specs.Possible.{HasFreeSequential, IsPossible}
 use Rattle.zd_reclaim.specs.Picks.{kind_of_class}
 use Rattle.zd_reclaim.proofs.ClassKinds.{class_kind, no_kind, some_same}
 

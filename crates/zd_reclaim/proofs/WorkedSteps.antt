@@ -1,5 +1,5 @@
 -- A step of a job whose call failed, and the last step.
-use Rattle.std.proofs.Common.{◌≡◌, ◌⊎◌, inl, inr, ℕ, Option, Some, None, Result, Ok, Err, refl, sym, subst}
+use Rattle.std.proofs.Common.{◌≡◌, inl, inr, Option, Some, None, Err, refl, sym, subst}
 use Rattle.zd_base.specs.declared.numbers.Why.{Why}
 use Rattle.zd_base.specs.declared.steps.StepKind.{StepKind}
 use Rattle.zd_base.specs.declared.steps.StepKind.TheVariants.{CopyRead, CopyWrite, Remap}
@@ -8,7 +8,7 @@ use Rattle.zd_volume.specs.Volumes.{PlainVolume}
 use Rattle.zd_volume.specs.declared.work.Work.{Work}
 use Rattle.zd_jobs.specs.JobSteps.{FailsCopyRead}
 use Rattle.zd_jobs.specs.NextSteps.{IsNextOf, IsNextStep}
-use Rattle.zd_state.specs.JobCalls.{CopiesOn, WritesBytes}
+use Rattle.zd_state.specs.JobCalls.{CopiesOn}
 use Rattle.zd_reclaim.specs.Works.{MakesNextStep, WorksOn}
 
 -- the job of which a step comes next

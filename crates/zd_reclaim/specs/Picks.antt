@@ -54,8 +54,8 @@ pub record IsFirstJob (v : PlainVolume) (Such : Job → Type 0) (job : Job) : Ty
 abbrev pub HasNoJob : PlainVolume → (Job → Type 0) → Type 0
 HasNoJob v Such = (job : Job) → IsPossible v job.chunk job.kind → Such job → ⊥
 
--- THE JOB THAT IS PICKED: the first that gives a conventional zone back; where there is none, the first Merge; where there
--- is none, the first Empty; none where no job is possible
+-- THE JOB THAT IS PICKED: the first that gives a conventional zone back; where there is none, the first Merge; where
+-- there is none, the first Empty; none where no job is possible
 abbrev pub IsPick : PlainVolume → Option Job → Type 0
 IsPick v None = (job : Job) → IsPossible v job.chunk job.kind → ⊥
 IsPick v (Some job) =

@@ -1,5 +1,5 @@
 -- Worked rows: zones of 16 blocks, of which the first six are conventional.
-use Rattle.std.specs.Prelude.{◌≡◌, ℕ, List, [], ◌∷◌, ◌++◌, replicate, Option, Some, None}
+use Rattle.std.specs.Prelude.{◌≡◌, ℕ, [], ◌∷◌, ◌++◌, replicate, Option, Some, None}
 use Rattle.zd_base.specs.Geometry.{Shape}
 use Rattle.zd_base.specs.declared.layout.Layout.{Layout}
 use Rattle.zd_model.specs.Tables.{Tables}

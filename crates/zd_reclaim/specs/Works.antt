@@ -12,7 +12,8 @@ use Rattle.zd_jobs.specs.Remaps.{RemapsChunk}
 use Rattle.zd_state.specs.JobCalls.{CopiesOn}
 
 -- ONE READ: the next run is read ahead, or the call failed
-pub record ReadsAhead {T E : Type 0} (from to : PlainVolume) (w : Work) (result : Result T E) (u x : View) : Type 0 where
+pub record ReadsAhead {T E : Type 0} (from to : PlainVolume) (w : Work) (result : Result T E) (u x : View)
+    : Type 0 where
   pub call : ReadsOnce u x
   pub reads : OnlyReads u x
   pub ok : OnOk result ((at count : ℕ) × ReadsBlocks from to w at count u.zones)

@@ -74,9 +74,10 @@ fn oldest_giving<D: ZonedDisk>(v: &Volume<D>) -> Option<ChunkNo>
     }
 }
 
-/// The job that is picked: the first in use order that gives a conventional zone back, an Append, a Move, or an Empty on
-/// a conventional zone; where there is none, the first Merge; where there is none, the first Empty. None exactly where
-/// no job is possible.
+/// The job that is picked: the first in use order that gives a conventional zone back, which is an Append, a Move,
+/// or an Empty on a conventional zone; where there is none, the first Merge; where there is none, the first Empty.
+/// None exactly where no job is possible. It looks at the index of candidates alone, and at no chunk but the one that
+/// is picked.
 pub fn pick<D: ZonedDisk>(v: &Volume<D>) -> Option<Job>
     ensures { IsPick v.now.plain result }
 {
@@ -94,8 +95,8 @@ pub fn pick<D: ZonedDisk>(v: &Volume<D>) -> Option<Job>
     Some(Job { kind, chunk })
 }
 
-/// Reclaim is never stuck: where no job is under way, no conventional zone is free and no zone of either kind is in limbo,
-/// a job is picked.
+/// Reclaim is never stuck: where no job is under way, no conventional zone is free and no zone of either kind is in
+/// limbo, a job is picked.
 pub fn never_stuck<D: ZonedDisk>(v: &Volume<D>)
     ensures { v.now.plain.job ≡ None → HasNoFree Conventional v.now.plain.division
         → (HasLimbo v.now.plain.division → ⊥) → (job : Job) × IsPick v.now.plain (Some job) }

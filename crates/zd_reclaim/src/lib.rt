@@ -7,8 +7,8 @@
 //!   index of candidates; neither looks over the chunks.
 //! - `due` says exactly whether a job is due.
 //! - `step` makes exactly the step of a job that comes next, by one call of the disk or none, and answers its kind.
-//! - Where a conventional zone is wanted and no zone is in limbo, some job is possible (`never_stuck`): reclaim is never
-//!   stuck.
+//! - Where no conventional zone is free, no zone is in limbo and no job is under way, one is picked
+//!   (`never_stuck`).
 #![tactic(auto)]
 
 mod choice;

@@ -1,5 +1,5 @@
-//! Worked rows of the definitions, as theorems. The bodies are empty: each clause is a row, and a wrong definition fails
-//! one of them.
+//! Worked rows of the definitions, as theorems. The bodies are empty: each clause is a row, and a wrong definition
+//! fails one of them.
 
 ghost use Rattle.std.specs.Prelude.{◌≡◌, [], Some, None};
 ghost use Rattle.zd_jobs.specs.Possible.{HasFreeSequential, kind_by};

@@ -19,9 +19,9 @@ fn next_kind<D: ZonedDisk>(v: &Volume<D>) -> StepKind
     v.next_of_job().unwrap()
 }
 
-/// Makes the next step of the job under way, and answers its kind: it reads the next run of blocks, writes what was read
-/// or zeros into a gap, or ends the job. That makes one call of the disk, and none where the job ends. While a commit is
-/// under way no job may end.
+/// Makes the next step of the job under way, and answers its kind: it reads the next run of blocks, writes what was
+/// read or zeros into a gap, or ends the job. That makes one call of the disk, and none where the job ends. While a
+/// commit is under way no job may end.
 ///
 /// `Device` only where the disk failed: the job is where it was, and the volume is stopped. No other error comes.
 pub fn step<D: ZonedDisk>(v: &mut Volume<D>) -> Result<StepKind, Why>

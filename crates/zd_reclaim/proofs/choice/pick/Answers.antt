@@ -1,4 +1,4 @@
-use Rattle.std.proofs.Common.{◌≡◌, Option, Some, None, sym, subst}
+use Rattle.std.proofs.Common.{Option, None, sym, subst}
 use Rattle.zd_volume.specs.declared.work.Job.{Job}
 use Rattle.zd_reclaim.specs.Picks.{IsPick}
 use Rattle.zd_reclaim.proofs.PickedJobs.{none_merge, pick_empty, pick_giving, pick_merge, pick_none}

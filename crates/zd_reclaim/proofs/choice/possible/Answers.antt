@@ -1,4 +1,4 @@
-use Rattle.std.proofs.Common.{◌≡◌, Bool, Some, None, Option, IfNone, refl, sym, ap, ◌∙◌, subst}
+use Rattle.std.proofs.Common.{Bool, Option, IfNone, refl, sym, ap, ◌∙◌, subst}
 use Rattle.std.proofs.lemmas.Bool.{false≢true}
 use Rattle.zd_jobs.specs.Possible.{IsPossible}
 use Rattle.zd_volume.specs.declared.work.Job.{Job}
@@ -25,11 +25,10 @@ pub returns-clause-some : goal.returns-clause-some
 returns-clause-some g c =
     let v = c.args.v.now.plain in
     let chunk = c.args.chunk in
-    let class = c.in_ok-class.class in
-    (
+    let class = c.in_ok-class.class in (
       refl,
       subst (λ (k : JobKind). IsPossible v chunk k)
-      (sym (c.kind_of-kind.ensures ∙ ap (λ (b : Bool). kind_of_class class b) c.is_some.ensures))
-      (possible_by v c.sound.ensures chunk c.requires c.candidates.result.now c.candidates.ensures class c.entry.result
-      (sym c.class.ensures ∙ c.in_ok-class.was) (c.has_target.ensures.0 c.if-not-has_target.false) c.entry.ensures),
+          (sym (c.kind_of-kind.ensures ∙ ap (λ (b : Bool). kind_of_class class b) c.is_some.ensures))
+          (possible_by v c.sound.ensures chunk c.requires c.candidates.result.now c.candidates.ensures class
+          c.entry.result (sym c.class.ensures ∙ c.in_ok-class.was) (c.has_target.ensures.0 c.if-not-has_target.false) c.entry.ensures),
     )
