@@ -24,4 +24,6 @@ mod refusals;
 #[cfg(test)]
 mod run;
 #[cfg(test)]
+mod values;
+#[cfg(test)]
 mod wide;
