@@ -18,4 +18,6 @@ mod refusals;
 #[cfg(test)]
 mod run;
 #[cfg(test)]
+mod values;
+#[cfg(test)]
 mod wide;

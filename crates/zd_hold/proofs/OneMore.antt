@@ -1,5 +1,6 @@
 -- What one more entry says of a value in a sector.
-use Rattle.std.proofs.Common.{◌≡◌, ◌↔◌, ◌⊎◌, ℕ, ◌+◌, ◌*◌, ◌/◌, ◌<◌, Bool, true, false, cond, ◌&&◌, List, [], ◌∷◌, ◌++◌, length, take}
+use Rattle.std.proofs.Common.{◌≡◌, ◌↔◌, ◌⊎◌, ℕ, ◌+◌, ◌*◌, ◌/◌, ◌<◌, Bool, true, false, cond, ◌&&◌, List, []}
+use Rattle.std.proofs.Common.{◌∷◌, ◌++◌, length, take}
 use Rattle.std.proofs.Common.{IsTrue, Option, Some, None, IsSomeAnd, refl, sym, ap, ◌∙◌, subst, inl, inr, arith}
 use Rattle.std.proofs.lemmas.List.{take_more}
 use Rattle.std.proofs.lemmas.Option.{get_or_from_slice_get, slice_get_within}
@@ -105,7 +106,10 @@ module _ (base : List (List ℕ)) (h : List HistoryEntry) (e : HistoryEntry) (k 
   module _ (no : is_acknowledged k e ≡ false) where
     pub may_stay : put_at (length base) e.what i ≡ None → (b : Bool) → IsTrue b ↔ MayHold base h k i value
         → IsTrue b ↔ MayHold base after k i value
-    may_stay none b may = (λ holds. may_hold-old base h e k i value no (may.0 holds), λ later. by_parts (may_hold-push base h e k i value no later))
+    may_stay none b may = (
+      λ holds. may_hold-old base h e k i value no (may.0 holds),
+      λ later. by_parts (may_hold-push base h e k i value no later),
+    )
       where
         by_parts : MayHold base h k i value ⊎ Adds (length base) k i value e → IsTrue b
         by_parts (inl old) = may.1 old
@@ -157,7 +161,10 @@ module _ (base : List ℕ) (k i : ℕ) (value : List ℕ) (there : i < length ba
       same
 
   pub may_first : IsTrue b ↔ MayHold (sectors_of base) [] k i value
-  may_first = (λ holds. inl (now_first.0 holds), λ may. elim may [ inl first ↦ now_first.1 first | inr none ↦ absurd none ])
+  may_first = (
+    λ holds. inl (now_first.0 holds),
+    λ may. elim may [ inl first ↦ now_first.1 first | inr none ↦ absurd none ],
+  )
 
 -- the entries with the next one
 pub take_next : (h : List HistoryEntry) (i : ℕ) (e : HistoryEntry) → slice_get h i ≡ Some e

@@ -1,6 +1,7 @@
 -- What a request puts into a sector, and the array after it.
 use Rattle.std.proofs.Common.{◌≡◌, ◌⊎◌, ℕ, ◌+◌, Bool, true, false, ◌||◌, cond, List, length}
-use Rattle.std.proofs.Common.{nat_le, nat_lt, slice_index_or, Option, Some, None, IsSomeAnd, refl, sym, ap, ◌∙◌, inl, inr}
+use Rattle.std.proofs.Common.{nat_le, nat_lt, slice_index_or, Option, Some, None, IsSomeAnd, refl, sym, ap}
+use Rattle.std.proofs.Common.{◌∙◌, inl, inr}
 use Rattle.std.proofs.lemmas.Bool.{le-leb, le-ltb, lt-leb, lt-ltb}
 use Rattle.std.specs.Option.{option_map}
 use Rattle.zd_model.specs.Bytes.{zero_sector}
@@ -26,8 +27,10 @@ module _ (sectors : ℕ) (what : What) (i : ℕ) where
 
   off_none : IsOutside what i → put_at sectors what i ≡ None
   off_none (inl before) =
-      ap (λ (b : Bool). cond (b || nat_le (first_sector what + sector_count what) i) None (option_map (λ p. p i) (put_by what)))
-      (ap (λ (b : Bool). ends_past sectors what || b) (lt-ltb i (first_sector what) before) ∙ or_true (ends_past sectors what))
+      ap (λ (b : Bool). cond (b || nat_le (first_sector what + sector_count what) i) None
+      (option_map (λ p. p i) (put_by what)))
+      (ap (λ (b : Bool). ends_past sectors what || b) (lt-ltb i (first_sector what) before)
+      ∙ or_true (ends_past sectors what))
   off_none (inr behind) =
       ap (λ (b : Bool). cond b None (option_map (λ p. p i) (put_by what)))
       (ap (λ (b : Bool). (ends_past sectors what || nat_lt i (first_sector what)) || b)
@@ -100,7 +103,8 @@ module _ (array : List (List ℕ)) (what : What) (i : ℕ) where
       by_past false fits = by_place fits (covers_cases what i)
 
   -- else it is what was found
-  pub is_put : (value : List ℕ) → put_at (length array) what i ≡ Some value → value_at (array_after array what) i ≡ value
+  pub is_put : (value : List ℕ) → put_at (length array) what i ≡ Some value
+      → value_at (array_after array what) i ≡ value
   is_put value is = let puts = found (length array) what i value is in by_put (put_by what) refl puts puts.put
     where
       by_put : (o : Option (ℕ → List ℕ)) → put_by what ≡ o → PutsValue (length array) what i value

@@ -6,7 +6,8 @@ use Rattle.zd_memdisk.specs.Events.{Done, after_all, after_done, call_at, done_b
 use Rattle.zd_memdisk.specs.Greatest.{event_count, events_by}
 use Rattle.zd_memdisk.specs.declared.greatest.EventsOf.{EventsOf}
 use Rattle.zd_memdisk.specs.declared.record.Noted.{Noted}
-use Rattle.zd_memdisk.proofs.Stopping.{after_none, after_skipped, step_done, step_under, under_here, under_none, under_skipped}
+use Rattle.zd_memdisk.proofs.Stopping.{after_none, after_skipped, step_done, step_under, under_here}
+use Rattle.zd_memdisk.proofs.Stopping.{under_none, under_skipped}
 
 -- What is counted of all calls, and what is left of them, so many calls before the stop
 pub record IsCountedTo (which : EventsOf) (noted : List Noted) (stop : ℕ) (bytes : List ℕ) (skipped : ℕ)
@@ -15,8 +16,10 @@ pub record IsCountedTo (which : EventsOf) (noted : List Noted) (stop : ℕ) (byt
   pub so_far : Done
   pub sized : at + total_bytes rest ≡ length bytes
   pub counted : count ≡ event_count which so_far.since
-  pub done : after_all so_far (take left (calls_of rest (drop at bytes) skipped)) ≡ done_by (calls_of noted bytes skipped) stop
-  pub under : under_way (calls_of rest (drop at bytes) skipped) left ≡ under_way (calls_of noted bytes skipped) stop
+  pub done : after_all so_far (take left (calls_of rest (drop at bytes) skipped))
+      ≡ done_by (calls_of noted bytes skipped) stop
+  pub under : under_way (calls_of rest (drop at bytes) skipped) left
+      ≡ under_way (calls_of noted bytes skipped) stop
 
 module _ (which : EventsOf) (noted : List Noted) (stop : ℕ) (bytes : List ℕ) (skipped : ℕ) where
   pub none_counted : length bytes ≡ total_bytes noted → IsCountedTo which noted stop bytes skipped noted stop 0
@@ -59,7 +62,8 @@ module _ (which : EventsOf) (noted : List Noted) (stop : ℕ) (bytes : List ℕ)
         (sym (under_skipped n.skipped left calls less) ∙ to.under)
 
     -- the call is under way
-    pub counted_under : left ≡ n.skipped → (asked : ℕ) → asked ≡ event_count which (asked_of (call_at bytes to.at n.call))
+    pub counted_under : left ≡ n.skipped → (asked : ℕ)
+        → asked ≡ event_count which (asked_of (call_at bytes to.at n.call))
         → count + asked ≡ events_by which (calls_of noted bytes skipped) stop
     counted_under here asked is =
         counts (count + asked) count asked to.so_far (asked_of (call_at bytes to.at n.call)) refl to.counted is

@@ -57,7 +57,8 @@ module _ (bytes : List ℕ) (start : ℕ) where
     | inl it ↦
         rw (same_test y z here, same_test (start + j) i it) (ap suc (sector_before z i y (j + 1) n (omega arith)))
     | inr other ↦
-        rw (same_test y z here, other_test (start + j) i other) (sector_among z i y (j + 1) n here (omega arith) (omega arith))
+        rw (same_test y z here, other_test (start + j) i other)
+        (sector_among z i y (j + 1) n here (omega arith) (omega arith))
   ]
 
 -- those of two lists

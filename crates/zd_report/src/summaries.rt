@@ -8,7 +8,6 @@ ghost use Rattle.zd_report.specs.Summary.{count_line, counts_text, run_summary, 
 #[cfg(test)]
 mod tests;
 
-use crate::ending_line;
 use crate::endings::add_outcome;
 use crate::numbers::add_number;
 use std::alloc::{AllocError, Global};
@@ -89,35 +88,6 @@ fn with_counts(alloc: Global, history: &History, made: u32) -> Result<String, Al
     Ok(text)
 }
 
-/// The lines of the counts, and a last line.
-fn with_ending(
-    alloc: Global,
-    history: &History,
-    made: u32,
-    ending: Ending,
-) -> Result<Vec<u8>, AllocError>
-    ensures { IfOk result (λ v. v.items ≡ summary history.now.items made ending) }
-{
-    let mut text = with_counts(alloc, history, made)?;
-    text.push_str(ending_line(ending))?;
-    Ok(text.into_bytes())
-}
-
-/// The summary of a history and its ending, where so many requests were made. After the number of requests
-/// it tells how many entries there are of each operation, with any reply, and how many of all failed.
-///
-/// `Memory` where none is found for it.
-pub fn summary(
-    alloc: Global,
-    history: &History,
-    made: u32,
-    ending: &Ending,
-) -> Result<Vec<u8>, Memory>
-    ensures { IfOk result (λ v. v.items ≡ summary history.now.items made ending.now) }
-{
-    with_ending(alloc, history, made, *ending).map_err(|_| Memory)
-}
-
 /// The lines of the counts, and that of the outcome.
 fn with_run(
     alloc: Global,
@@ -145,4 +115,19 @@ pub fn summary_output(
     ensures { IfOk result (λ v. v.items ≡ run_summary history.now.items made outcome.now) }
 {
     with_run(alloc, history, made, outcome).map_err(|_| Memory)
+}
+
+/// The summary of a history and its ending, where so many requests were made. After the number of requests
+/// it tells how many entries there are of each operation, with any reply, and how many of all failed.
+///
+/// `Memory` where none is found for it.
+pub fn summary(
+    alloc: Global,
+    history: &History,
+    made: u32,
+    ending: &Ending,
+) -> Result<Vec<u8>, Memory>
+    ensures { IfOk result (λ v. v.items ≡ summary history.now.items made ending.now) }
+{
+    summary_output(alloc, history, made, &Outcome::Ended(*ending))
 }

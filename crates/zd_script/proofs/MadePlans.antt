@@ -191,7 +191,8 @@ module _ (seed blocks : ℕ) (device : 1 ≤ blocks) where
   pub plan_made : (n : ℕ) → n < 2 ^ 32 → IsPlan (made seed n blocks)
   plan_made n few = record {
     count = rw (length-map-range_with_len request_at 1 n) few;
-    each = each-at IsRequest (made seed n blocks) (all_made IsRequest 1 n (1 + n) (omega arith) (λ q low. right_request q));
+    each = each-at IsRequest (made seed n blocks)
+        (all_made IsRequest 1 n (1 + n) (omega arith) (λ q low. right_request q));
   }
 
   pub made_inside : (n : ℕ) → AreInDevice blocks (made seed n blocks)

@@ -25,6 +25,7 @@ loop-i-preserved c =
     let base = sectors_of c.args.base.now in
     let history = c.args.history.now.items in
     let e = shown_entry c.get.result.now in
-    let size = length-map-range_with_len (λ j. slice_range c.args.base.now (512 * j) (512 * j + 512)) 0 (length c.args.base.now / 512) in
+    let size = length-map-range_with_len (λ j. slice_range c.args.base.now (512 * j) (512 * j + 512)) 0
+    (length c.args.base.now / 512) in
     rw (take_next history c.loop-i.i e c.get.ensures)
     (c.after-held.ensures base (take c.loop-i.i history) size c.loop-i.invariant)

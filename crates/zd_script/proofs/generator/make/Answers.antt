@@ -16,7 +16,8 @@ loop-i-preserved c =
 
 pub returns-clause-plan : goal.returns-clause-plan
 returns-clause-plan c =
-    rw c.loop-i.invariant.plan (plan_made c.args.seed c.args.blocks c.requires c.loop-i.i (omega (arith, c.ranges.n.fits)))
+    rw c.loop-i.invariant.plan
+    (plan_made c.args.seed c.args.blocks c.requires c.loop-i.i (omega (arith, c.ranges.n.fits)))
 
 pub returns-clause-inside : goal.returns-clause-inside
 returns-clause-inside c =

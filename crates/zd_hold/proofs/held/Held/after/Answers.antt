@@ -15,7 +15,8 @@ returns-then-is_acknowledged c base history size before =
     let a = c.args.asked in
     let is = sym c.is_acknowledged.ensures ∙ c.if-is_acknowledged.true in
     record {
-      now = now_stays base history e a.calls a.sector a.value.now (flush_none _ a.calls a.sector e is) c.args.self.now before.now;
+      now = now_stays base history e a.calls a.sector a.value.now (flush_none _ a.calls a.sector e is)
+          c.args.self.now before.now;
       may = may_flush base history e a.calls a.sector a.value.now is c.args.self.now before.now;
     }
 
@@ -64,20 +65,22 @@ returns c base history size before =
     let a = c.args.asked in
     let no = sym c.is_acknowledged.ensures ∙ c.if-is_acknowledged.false in
     let some = ap (λ n. put_at n e.what a.sector) size ∙ sym c.put_at.ensures ∙ c.in-Some.is in
-    let same = compared c.in-Some.put a.value.now c.as_slice.result.now c.eq-same.result c.as_slice.ensures c.eq-same.ensures in
+    let same = compared c.in-Some.put a.value.now c.as_slice.result.now c.eq-same.result c.as_slice.ensures
+    c.eq-same.ensures in
     let counts : Type 0 = MayCount (operation_of e.what) a.calls e in
     let sum : IsTrue c.if-self.may ↔ (IsTrue c.args.self.may ⊎ (IsTrue c.eq-same.result × counts)) =
     elim c.if-self.branch [
       | then-self w ↦ either_first c.if-self.may c.args.self.may c.eq-same.result counts w.may-is w.if-self.true
       | else-self+then-same w ↦
-          either_second c.if-self.may c.args.self.may c.eq-same.result w.may_count.result counts w.may-is w.if-self.false
-          w.if-same.true w.may_count.ensures
+          either_second c.if-self.may c.args.self.may c.eq-same.result w.may_count.result counts w.may-is
+          w.if-self.false w.if-same.true w.may_count.ensures
       | else-self+else-same w ↦
           neither c.if-self.may c.args.self.may c.eq-same.result counts w.may-is w.if-self.false w.if-same.false
     ] in
     record {
       now = rw c.now_after.ensures
-          (now_put base history e a.calls a.sector a.value.now c.in-Some.put some c.args.self.now c.eq-same.result before.now same);
+          (now_put base history e a.calls a.sector a.value.now c.in-Some.put some c.args.self.now c.eq-same.result
+          before.now same);
       may = may_add base history e a.calls a.sector a.value.now no c.in-Some.put some c.args.self.may c.eq-same.result
           c.if-self.may before.may same sum;
     }

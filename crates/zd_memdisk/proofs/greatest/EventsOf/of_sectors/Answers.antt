@@ -3,7 +3,8 @@ use Rattle.std.proofs.lemmas.Bool.Decides.{nat_tests}
 use Rattle.zd_disk.specs.Growth.{puts}
 use Rattle.zd_memdisk.specs.Greatest.{event_count}
 use Rattle.zd_memdisk.specs.declared.greatest.EventsOf.{EventsOf}
-use Rattle.zd_memdisk.proofs.CountedEvents.{all_of_zone, no_sector, none_of_zone, sector_among, sector_before, sector_behind}
+use Rattle.zd_memdisk.proofs.CountedEvents.{all_of_zone, no_sector, none_of_zone, sector_among, sector_before}
+use Rattle.zd_memdisk.proofs.CountedEvents.{sector_behind}
 use Rattle.zd_memdisk.proofs.greatest.EventsOf.of_sectors.Goals as goal
 
 is_other : (zone written : ℕ) (b : Bool) → b ≡ not (eqb zone written) → b ≡ true → written ≢ zone

@@ -3,7 +3,8 @@ use Rattle.std.proofs.lemmas.List.{at_drop_all}
 use Rattle.zd_memdisk.specs.Calls.{byte_count, total_bytes}
 use Rattle.zd_memdisk.specs.Events.{AreFit}
 use Rattle.zd_memdisk.specs.declared.record.Noted.{Noted}
-use Rattle.zd_memdisk.proofs.CountedCalls.{IsCountedTo, counted_all, counted_before, counted_more, counted_under, none_counted}
+use Rattle.zd_memdisk.proofs.CountedCalls.{IsCountedTo, counted_all, counted_before, counted_more}
+use Rattle.zd_memdisk.proofs.CountedCalls.{counted_under, none_counted}
 use Rattle.zd_memdisk.proofs.Walking.{opened}
 use Rattle.zd_memdisk.proofs.greatest.EventsOf.up_to.Goals as goal
 
@@ -49,8 +50,8 @@ loop-noted-preserved c =
       fit = (subst AreFit rest l.invariant.fit).1;
       room = let few = c.after-count.ensures.few in omega (arith, total, size, l.invariant.room);
       counted = λ bytes skipped sized.
-          let to = subst (λ (r : List Noted). IsCountedTo c.args.self.now noted c.args.stop bytes skipped r l.left l.count) rest
-          (l.invariant.counted bytes skipped sized) in
+          let to = subst (λ (r : List Noted). IsCountedTo c.args.self.now noted c.args.stop bytes skipped r l.left l.count)
+          rest (l.invariant.counted bytes skipped sized) in
           let within : to.at + byte_count n.call ≤ length bytes = let whole = to.sized in omega arith in
           counted_more c.args.self.now noted c.args.stop bytes skipped n behind l.left l.count to (omega arith)
           c.after-count.result (c.after-count.ensures.value bytes to.at to.so_far within to.counted);
@@ -60,7 +61,8 @@ pub returns : goal.returns
 returns c bytes skipped sized =
     let l = c.loop-noted in
     let noted = c.args.noted.now in
-    let none : drop l.noted-index noted ≡ [] = at_drop_all (λ (r : List Noted). r) noted l.noted-index c.loop-noted-test.false in
+    let none : drop l.noted-index noted ≡ [] =
+    at_drop_all (λ (r : List Noted). r) noted l.noted-index c.loop-noted-test.false in
     counted_all c.args.self.now noted c.args.stop bytes skipped l.left l.count
     (subst (λ (r : List Noted). IsCountedTo c.args.self.now noted c.args.stop bytes skipped r l.left l.count) none
     (l.invariant.counted bytes skipped sized))

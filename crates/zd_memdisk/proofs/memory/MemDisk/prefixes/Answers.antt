@@ -3,7 +3,9 @@ use Rattle.zd_base.specs.Geometry.{Shape, zone_count}
 use Rattle.zd_memdisk.specs.declared.store.Store.{Store}
 use Rattle.zd_memdisk.proofs.StopNumbers.{no_sequential, no_such_zone, prefixes_to}
 use Rattle.zd_memdisk.proofs.memory.MemDisk.prefixes.Goals as goal
-use Rattle.zd_memdisk.proofs.memory.MemDisk.prefixes.Goals.{then-k-calls-via-then-k-calls, then-k-calls-via-else-k-calls+then-zone-conv, then-k-calls-via-else-k-calls+else-zone-conv+then-zone-zones}
+use Rattle.zd_memdisk.proofs.memory.MemDisk.prefixes.Goals.{then-k-calls-via-then-k-calls}
+use Rattle.zd_memdisk.proofs.memory.MemDisk.prefixes.Goals.{then-k-calls-via-else-k-calls+then-zone-conv}
+use Rattle.zd_memdisk.proofs.memory.MemDisk.prefixes.Goals.{then-k-calls-via-else-k-calls+else-zone-conv+then-zone-zones}
 
 pub returns-then-k-calls-clause-none : goal.returns-then-k-calls-clause-none
 returns-then-k-calls-clause-none c =

@@ -3,7 +3,9 @@ use Rattle.zd_base.specs.Geometry.{Shape, zone_sectors}
 use Rattle.zd_memdisk.specs.declared.store.Store.{Store}
 use Rattle.zd_memdisk.proofs.StopNumbers.{no_sector, no_zone, values_to}
 use Rattle.zd_memdisk.proofs.memory.MemDisk.values.Goals as goal
-use Rattle.zd_memdisk.proofs.memory.MemDisk.values.Goals.{then-k-calls-via-then-k-calls, then-k-calls-via-else-k-calls+then-zone-conv, then-k-calls-via-else-k-calls+else-zone-conv+then-sector-zone_blocks}
+use Rattle.zd_memdisk.proofs.memory.MemDisk.values.Goals.{then-k-calls-via-then-k-calls}
+use Rattle.zd_memdisk.proofs.memory.MemDisk.values.Goals.{then-k-calls-via-else-k-calls+then-zone-conv}
+use Rattle.zd_memdisk.proofs.memory.MemDisk.values.Goals.{then-k-calls-via-else-k-calls+else-zone-conv+then-sector-zone_blocks}
 
 pub returns-then-k-calls-clause-none : goal.returns-then-k-calls-clause-none
 returns-then-k-calls-clause-none c =
@@ -23,5 +25,5 @@ returns-then-k-calls-clause-none c =
 pub returns-clause-some : goal.returns-clause-some
 returns-clause-some c =
     let told = c.geometry-geometry.ensures ∙ ap (λ (s : Store). s.geometry) c.store.ensures in
-    values_to c.args.self.now c.args.k c.args.zone c.args.sector c.event_count.result c.event_count.ensures (omega arith)
-    (omega (arith, ap (λ (g : Shape). g.conv) told)) (omega (arith, ap zone_sectors told))
+    values_to c.args.self.now c.args.k c.args.zone c.args.sector c.event_count.result c.event_count.ensures
+    (omega arith) (omega (arith, ap (λ (g : Shape). g.conv) told)) (omega (arith, ap zone_sectors told))
