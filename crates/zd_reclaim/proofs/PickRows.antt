@@ -8,7 +8,7 @@ use Rattle.zd_volume.specs.declared.work.JobKind.{JobKind}
 use Rattle.zd_volume.specs.declared.work.JobKind.TheVariants.{Empty, Move, Append, Merge}
 use Rattle.zd_jobs.specs.Possible.{HasFreeSequential, IsPossible, kind_on}
 use Rattle.zd_reclaim.specs.Picks.{GivesConventional, IsFirstJob, IsGiving, IsMerge, IsOnConventional, IsPick}
-use Rattle.zd_reclaim.specs.Rows.{HasTwoJobs, job_of}
+use Rattle.zd_reclaim.specs.ReclaimRows.{HasTwoJobs, job_of}
 use Rattle.zd_reclaim.proofs.ClassKinds.{some_same}
 
 below_two : (c : ℕ) → c < 2 → (c ≡ 0) ⊎ (c ≡ 1)

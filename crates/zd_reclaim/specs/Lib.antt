@@ -1,4 +1,4 @@
 pub mod Picks
 pub mod Due
 pub mod Works
-pub mod Rows
+pub mod ReclaimRows

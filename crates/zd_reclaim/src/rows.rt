@@ -5,8 +5,8 @@ ghost use Rattle.std.specs.Prelude.{◌≡◌, [], Some, None};
 ghost use Rattle.zd_jobs.specs.Possible.{HasFreeSequential, kind_by};
 ghost use Rattle.zd_reclaim.specs.Due.{low_mark};
 ghost use Rattle.zd_reclaim.specs.Picks.{IsOnConventional, IsPick};
-ghost use Rattle.zd_reclaim.specs.Rows.{HasTwoJobs, job_of, kind_beside, kind_in, one_bitmap, ordinary_disk};
-ghost use Rattle.zd_reclaim.specs.Rows.{ordinary_layout, small_disk, small_layout};
+ghost use Rattle.zd_reclaim.specs.ReclaimRows.{HasTwoJobs, job_of, kind_beside, kind_in, one_bitmap, ordinary_disk};
+ghost use Rattle.zd_reclaim.specs.ReclaimRows.{ordinary_layout, small_disk, small_layout};
 ghost use Rattle.zd_volume.specs.Volumes.{PlainVolume};
 ghost use Rattle.zd_volume.specs.declared.work.JobKind.{JobKind};
 
