@@ -15,4 +15,5 @@ pub use examining::{Image, OpenFault, examine};
 pub use map::{first_bad_chunk, give_roles, is_new, is_right_buffer};
 pub use opening::{open, settle_disk};
 pub use padding::pad;
+pub use pointers::read_pointers;
 pub use roles::Role;

@@ -8,7 +8,7 @@ use Rattle.zd_base.specs.declared.layout.Layout.{Layout}
 use Rattle.zd_model.specs.Image.{Image}
 use Rattle.zd_model.specs.Volume.{first_set, good_super, second_set, second_super}
 use Rattle.zd_model.specs.declared.metadata.Super.{Super}
-use Rattle.zd_sets.specs.Equal.{head_at}
+use Rattle.zd_sets.specs.Equal.{IsSameHead, head_at}
 use Rattle.zd_sets.specs.Stages.{ChoosesBlocks}
 use Rattle.zd_sets.proofs.ChosenLaws.{first_chosen, one_is, second_chosen}
 use Rattle.zd_repair.specs.Heads.{HoldsHeads}
@@ -20,7 +20,7 @@ some_none (Some y) x e n = cc
 -- the set is chosen with this head
 pub record ChoosesHead (g : Shape) (l : Layout) (bytes : List ℕ) (head : Super) (i : Image) : Type 0 where
   pub chooses : ChoosesBlocks g l bytes i
-  pub head_is : chooses.set.head ≡ head_at g chooses.set.first head
+  pub same_head : IsSameHead chooses.set.head head
 
 module _ (l : Layout) (bytes : List ℕ) (first second : Super) (one : first.layout ≡ l) (two : second.layout ≡ l)
     (i : Image) (fits : Fits i.geometry l) (h : HoldsHeads i.geometry l first second bytes i) where
@@ -52,7 +52,7 @@ module _ (l : Layout) (bytes : List ℕ) (first second : Super) (one : first.lay
       each = h.first_set.each;
       some_good = some_none (good_super i 0) (head_at g 0 first) h.first_set.super;
     };
-    head_is = refl;
+    same_head = refl;
   }
 
   -- set 1 is, where it is newer
@@ -66,5 +66,5 @@ module _ (l : Layout) (bytes : List ℕ) (first second : Super) (one : first.lay
       each = h.second_set.each;
       some_good = some_none (good_super i 0) (head_at g 0 first) h.first_set.super;
     };
-    head_is = refl;
+    same_head = refl;
   }

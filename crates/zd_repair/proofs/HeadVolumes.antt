@@ -7,7 +7,6 @@ use Rattle.zd_model.specs.Image.{Image}
 use Rattle.zd_model.specs.Tables.{MapFollowsRules}
 use Rattle.zd_model.specs.declared.metadata.Super.{Super}
 use Rattle.zd_sets.specs.Choice.{chosen_of}
-use Rattle.zd_sets.specs.Equal.{head_at}
 use Rattle.zd_sets.specs.declared.choice.Chosen.{Chosen as Choice}
 use Rattle.zd_tables.specs.Tables.{entries_in}
 use Rattle.zd_repair.specs.Heads.{HoldsEither, HoldsHeads, IsNextHead}
@@ -22,7 +21,7 @@ module _ (g : Shape) (c : Choice) (bytes : List ℕ) (fits : Fits g c.head.layou
   with_head head h = record {
     set = h.chooses.set;
     well_formed = well_formed_by g i shape c.head.layout bytes fits h.chooses map serves.bits;
-    head_is = h.head_is ∙ ap (λ (s : Shape). head_at s h.chooses.set.first head) (sym shape);
+    same_head = h.same_head;
     same = content_by g i shape c.head.layout bytes fits h.chooses ∙ serves.served;
   }
 

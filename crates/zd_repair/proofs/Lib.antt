@@ -7,3 +7,12 @@ pub mod FrontLaws
 pub mod ReheadViews
 pub mod RelabelLaws
 pub mod UpgradeLaws
+pub mod LeftEntries
+pub mod LeftMaps
+pub mod FewerBits
+pub mod InvalidLaws
+pub mod RoleBits
+pub mod RepairedMaps
+pub mod LeftTables
+pub mod CommitLaws
+pub mod CommitViews

@@ -3,9 +3,10 @@ use Rattle.std.proofs.Common.{◌≡◌, Some, ℕ, ◌+◌, ◌-◌, ◌^◌, �
 use Rattle.std.proofs.lemmas.Bool.{cases_lt, false≢true}
 use Rattle.zd_base.specs.Geometry.{Shape, zone_count}
 use Rattle.zd_disk.specs.OfGeometry.{IsImageOf}
-use Rattle.zd_disk.specs.View.{View, Holds, IsDurable, Made, Reaches, ReachesBy, Turns}
+use Rattle.zd_disk.specs.View.{View, Holds, IsDurable, Keeps, Made, Reaches, ReachesBy, Turns}
+use Rattle.zd_disk.proofs.SameSteps.{Same-trans}
 use Rattle.zd_disk.proofs.ToldLaws.{Both-by}
-use Rattle.zd_disk.proofs.ViewLaws.{stays_then, turned, turns_with}
+use Rattle.zd_disk.proofs.ViewLaws.{by_as, kept_by, stays_then, turned, turns_with}
 use Rattle.zd_examine.specs.Examined.{IsUsable}
 use Rattle.zd_examine.specs.Opened.{HoldsBothSets, IsLeftOrKept, IsOpened, IsOpening, IsSameVolume, KeepsFrom, ServesContent, open_calls}
 use Rattle.zd_examine.specs.Padded.{HasPad}
@@ -19,7 +20,7 @@ use Rattle.zd_sets.specs.Choice.{chosen_of}
 use Rattle.zd_sets.specs.Equal.{OnlyAt}
 use Rattle.zd_sets.specs.declared.choice.Chosen.{Chosen as Choice}
 use Rattle.zd_repair.specs.Heads.{AreHeadsAfter, AtFronts, HasPartOfHeads, HoldsHeads, IsNextHead, MovesHeads}
-use Rattle.zd_repair.specs.Reheaded.{ChangesHeads, HasChangedHeads, ServesWith, ServesWithEither}
+use Rattle.zd_repair.specs.Reheaded.{ChangesHeads, HasChangedHeads, IsKeptBut, IsLeftOrBut, IsVolumeBut, KeepsFromBut, ServesWith, ServesWithEither}
 use Rattle.zd_repair.proofs.FrontLaws.{serves_still}
 use Rattle.zd_repair.proofs.HeadVolumes.{with_either, with_new}
 use Rattle.zd_repair.proofs.HeadViews.{heads_either}
@@ -93,6 +94,34 @@ module _ (v : Volume) (usable : IsUsable v.geometry v.chosen v.blocks v.pointers
             (only.sequential z (subst (λ (h : Shape). h.conv ≤ z) (sym is.stays) seq));
       }
 
+-- a volume that opening keeps has its head
+same_but : (change : Super → Super) (old new : Image) → IsSameVolume old new → IsVolumeBut change old new
+same_but change old new v = (
+  v.0,
+  v.1,
+  inl (record { set = v.2.set; well_formed = v.2.well_formed; same_head = v.2.same_head; same = v.2.same }),
+)
+
+left_but : (change : Super → Super) (reads old new : Image) → IsLeftOrKept reads old new → IsLeftOrBut change reads old new
+left_but change reads old new (inl same) = inl same
+left_but change reads old new (inr v) = inr (same_but change reads new v)
+
+-- where opening alone was done
+pub opened_way : (change : Super → Super) {u w : View} → ReachesBy IsLeftOrKept u w → ReachesBy (IsLeftOrBut change) u w
+opened_way change h = by_as (left_but change) h
+
+pub opened_keeps : (change : Super → Super) {from : ℕ} {u w : View} → KeepsFrom from u w → KeepsFromBut change from u w
+opened_keeps change h = record {
+  left = λ low old e k i above below can. left_but change old old i (h.left low old e k i above below can);
+}
+
+-- where a stop would have left what the disk read as alone
+pub way_kept : (change : Super → Super) {u w : View} → ReachesBy (IsLeftOrBut change) u w → Keeps (IsKeptBut change) u w
+way_kept change h = kept_by (λ i a b e same is. elim is [
+  | inl here ↦ inl (Same-trans i a b same here)
+  | inr volume ↦ inr volume
+]) h
+
 -- from opening's end on
 module _ (v : Volume) (some : 0 < v.geometry.zone_blocks) {u m w : View} (opening : IsOpening v u m) (new : Super)
     (next : IsNextHead v.chosen.head new) (way : Reaches (HasPartOfHeads v.geometry v.chosen.head.layout new) m w) where
@@ -116,11 +145,6 @@ module _ (v : Volume) (some : 0 < v.geometry.zone_blocks) {u m w : View} (openin
       (heads_either v.geometry v.chosen.head new v.blocks some opening.usable.placed.fits d b first.geometry
       (record { first_set = both.first; second_set = both.second }) part)
 
-  same_of : (old b : Image) → IsWellFormed old (chosen_of v.chosen) → ServesWithEither v.chosen.head new (chosen_of v.chosen) old b
-      → IsSameVolume old b
-  same_of old b well (inl same) = (chosen_of v.chosen, well, record { set = same.set; well_formed = same.well_formed; same = same.same })
-  same_of old b well (inr same) = (chosen_of v.chosen, well, record { set = same.set; well_formed = same.well_formed; same = same.same })
-
   -- what the disk reads as
   read_volume : (old d b : Image) → m.zones ≡ Some d → IsImage b
       → IsOpened v.geometry v.chosen v.blocks v.pointers.items v.named.items old d
@@ -142,51 +166,62 @@ module _ (v : Volume) (some : 0 < v.geometry.zone_blocks) {u m w : View} (openin
       volume_of old one.0 i (of_left m opening.told m.calls one.0 (omega arith) one.1) (of_left w told_now k i below can)
       (opening.sets.left under one.0 one.1) (opening.leaves under old e one.0 one.1) one.2
 
-  late_same : w.calls < 2 ^ 64 - 1 → (old : Image) → u.zones ≡ Some old → (k : ℕ) (i : Image) → m.calls ≤ k → k ≤ w.calls
-      → w.left k i → IsSameVolume old i
-  late_same low old e k i above below can =
-      let there = turned opening.opened old e in
-      same_of old i there.2.well_formed (late_volume low old e k i above below can)
+  module _ (change : Super → Super) (changed : change v.chosen.head ≡ new) where
+    is_but : (old b : Image) → IsWellFormed old (chosen_of v.chosen) → ServesWithEither v.chosen.head new (chosen_of v.chosen) old b
+        → IsVolumeBut change old b
+    is_but old b well h = (
+      chosen_of v.chosen,
+      well,
+      subst (λ (s : Super). ServesWithEither v.chosen.head s (chosen_of v.chosen) old b) (sym changed) h,
+    )
+
+    late_but : w.calls < 2 ^ 64 - 1 → (old : Image) → u.zones ≡ Some old → (k : ℕ) (i : Image) → m.calls ≤ k → k ≤ w.calls
+        → w.left k i → IsVolumeBut change old i
+    late_but low old e k i above below can =
+        let there = turned opening.opened old e in
+        is_but old i there.2.well_formed (late_volume low old e k i above below can)
+
+    pub reheads_way : ReachesBy IsLeftOrKept u m → ReachesBy (IsLeftOrBut change) u w
+    reheads_way before = record {
+      stays = stays_then before.stays way.stays;
+      order = let one = before.order in let two = way.order in omega (arith, one, two);
+      reads = turns_with (λ old d b e n after is part. inr (is_but old b is.well_formed (read_volume old d b n after is part)))
+          opening.opened way.reads;
+      left = λ low old e. (
+          let order = way.order in
+          let there = turned opening.opened old e in
+          let one = before.left (omega (arith, low, order)) old e in
+          let two = way.left low there.0 there.1 in
+          let later = before.order in
+          record {
+            earlier = λ k i under can. one.earlier k i under (two.earlier k i (omega (arith, under, later)) can);
+            each = λ k i above below can. elim (cases_lt k m.calls) [
+              | inl early ↦
+                  let here = one.each k i above (omega (arith, early)) (two.earlier k i early can) in
+                  (here.0, here.1, left_but change old here.0 i here.2)
+              | inr late ↦
+                  let here = two.each k i late below can in
+                  let from = one.each m.calls here.0 later (omega arith) here.1 in
+                  (from.0, from.1, inr (late_but low old e k i late below can))
+            ];
+          });
+    }
+
+    pub reheads_keep : {from : ℕ} → KeepsFrom from u m → KeepsFromBut change from u w
+    reheads_keep {from} before = record {
+      left = λ low old e k i above below can. (
+          let order = way.order in
+          let there = turned opening.opened old e in
+          elim (cases_lt k m.calls) [
+            | inl early ↦ left_but change old old i (before.left (omega (arith, low, order)) old e k i above (omega (arith, early))
+                ((way.left low there.0 there.1).earlier k i early can))
+            | inr late ↦ inr (late_but low old e k i late below can)
+          ]);
+    }
 
   pub opened_then : Turns (IsOpened v.geometry v.chosen v.blocks v.pointers.items v.named.items) u w
   opened_then = turns_with (λ old d b e n after is part.
       opened_still v opening.usable some old d is b (m.shaped d n) after part.only) opening.opened way.reads
-
-  pub reheads_way : ReachesBy IsLeftOrKept u m → ReachesBy IsLeftOrKept u w
-  reheads_way before = record {
-    stays = stays_then before.stays way.stays;
-    order = let one = before.order in let two = way.order in omega (arith, one, two);
-    reads = turns_with (λ old d b e n after is part. inr (same_of old b is.well_formed (read_volume old d b n after is part)))
-        opening.opened way.reads;
-    left = λ low old e. (
-        let order = way.order in
-        let there = turned opening.opened old e in
-        let one = before.left (omega (arith, low, order)) old e in
-        let two = way.left low there.0 there.1 in
-        let later = before.order in
-        record {
-          earlier = λ k i under can. one.earlier k i under (two.earlier k i (omega (arith, under, later)) can);
-          each = λ k i above below can. elim (cases_lt k m.calls) [
-            | inl early ↦ one.each k i above (omega (arith, early)) (two.earlier k i early can)
-            | inr late ↦ (
-                let here = two.each k i late below can in
-                let from = one.each m.calls here.0 later (omega arith) here.1 in
-                (from.0, from.1, inr (late_same low old e k i late below can)))
-          ];
-        });
-  }
-
-  pub reheads_keep : {from : ℕ} → KeepsFrom from u m → KeepsFrom from u w
-  reheads_keep {from} before = record {
-    left = λ low old e k i above below can. (
-        let order = way.order in
-        let there = turned opening.opened old e in
-        elim (cases_lt k m.calls) [
-          | inl early ↦ before.left (omega (arith, low, order)) old e k i above (omega (arith, early))
-              ((way.left low there.0 there.1).earlier k i early can)
-          | inr late ↦ inr (late_same low old e k i late below can)
-        ]);
-  }
 
   module _ {done : ℕ} (version : ℕ) (is : v.chosen.head.version ≡ version) (rises : v.chosen.head.generation + 1 < 2 ^ 64)
       (change : Super → Super) (changed : change v.chosen.head ≡ new)

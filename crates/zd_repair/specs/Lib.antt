@@ -2,3 +2,5 @@ pub mod Heads
 pub mod Reheaded
 pub mod Relabeled
 pub mod Upgraded
+pub mod Repaired
+pub mod Committed

@@ -5,11 +5,11 @@ use Rattle.zd_disk.specs.View.{View, Holds, IsDurable, MadeOf, Turns}
 use Rattle.zd_examine.specs.Examined.{IsUsable}
 use Rattle.zd_examine.specs.Opened.{IsOpened, IsOpening, open_calls}
 use Rattle.zd_examine.specs.declared.examining.Image.{Image as Volume}
-use Rattle.zd_model.specs.Image.{Image}
+use Rattle.zd_model.specs.Image.{Image, Same}
 use Rattle.zd_model.specs.Volume.{Chosen, IsWellFormed, content}
 use Rattle.zd_model.specs.declared.metadata.Super.{Super}
 use Rattle.zd_sets.specs.Choice.{chosen_of}
-use Rattle.zd_sets.specs.Equal.{head_at}
+use Rattle.zd_sets.specs.Equal.{IsSameHead}
 use Rattle.zd_repair.specs.Heads.{HoldsHeads, LeavesHeads}
 
 -- the disk that an answer hands back
@@ -21,11 +21,12 @@ disk_in (Err e) = e.1
 abbrev pub IsOnlyOpened : View → View → Type 0
 IsOnlyOpened u w = (v : Volume) × IsOpening v u w
 
--- new is well-formed by a set with this head, which serves from it what set c serves from old
+-- new is well-formed by a set with this head, but for its own number, which serves from it what set c serves from
+-- old
 pub record ServesWith (head : Super) (c : Chosen) (old new : Image) : Type 0 where
   pub set : Chosen
   pub well_formed : IsWellFormed new set
-  pub head_is : set.head ≡ head_at new.geometry set.first head
+  pub same_head : IsSameHead set.head head
   pub same : content new set ≡ content old c
 
 -- with one of two heads
@@ -35,6 +36,25 @@ ServesWithEither head other c old new = ServesWith head c old new ⊎ ServesWith
 -- both are well-formed, with the same content, and the head of the new one is that of the old one changed so
 abbrev pub IsVolumeWith : (Super → Super) → Image → Image → Type 0
 IsVolumeWith change old new = (c : Chosen) × IsWellFormed old c × ServesWith (change c.head) c old new
+
+-- or that of the old one is as it was
+abbrev pub IsVolumeBut : (Super → Super) → Image → Image → Type 0
+IsVolumeBut change old new =
+    (c : Chosen) × IsWellFormed old c × ServesWithEither c.head (change c.head) c old new
+
+-- the new one holds the same, or it is such a volume
+abbrev pub IsKeptBut : (Super → Super) → Image → Image → Type 0
+IsKeptBut change old new = Same old new ⊎ IsVolumeBut change old new
+
+-- a stop may leave the new one: it holds the same as one that it could leave before, or it is such a volume for what
+-- the disk read as
+abbrev pub IsLeftOrBut : (Super → Super) → Image → Image → Image → Type 0
+IsLeftOrBut change reads old new = Same old new ⊎ IsVolumeBut change reads new
+
+-- from this moment on each image that a stop may leave holds the same as what the disk read as, or is such a volume
+pub record KeepsFromBut (change : Super → Super) (from : ℕ) (u v : View) : Type 0 where
+  pub left : v.calls < 2 ^ 64 - 1 → WhereTold u.zones (λ old. (k : ℕ) (new : Image) → from ≤ k → k ≤ v.calls
+      → v.left k new → IsKeptBut change old new)
 
 -- The heads of a volume are changed, by what the disk told before and tells now: the volume was opened, and
 -- then both super blocks were written in their order, where the calls up to `done` did their work. It was of this

@@ -29,7 +29,7 @@ fn head_in(geometry: &Geometry, zone: ZoneNo, head: Super) -> Super
 /// Writes a head as the super block of a zone, with its own number there, in place of a good one, and flushes.
 ///
 /// At any answer, and in what a stop leaves, the super block is the one before or the new one.
-fn put_head<D: ZonedDisk>(
+pub fn put_head<D: ZonedDisk>(
     disk: &mut D,
     geometry: &Geometry,
     zone: ZoneNo,

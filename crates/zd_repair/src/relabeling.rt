@@ -3,9 +3,8 @@
 ghost use Rattle.std.specs.Prelude.{◌≡◌, ◌+◌, ◌<◌, ◌≤◌, ◌^◌, IfErr, IfOk, OnOk};
 ghost use Rattle.zd_disk.specs.Told.{WhereTold};
 ghost use Rattle.zd_disk.specs.View.{HasFailed, Keeps, ReachesBy};
-ghost use Rattle.zd_examine.specs.Opened.{IsKept, IsLeftOrKept, KeepsFrom};
 ghost use Rattle.zd_model.specs.Super.{FitsVersion};
-ghost use Rattle.zd_repair.specs.Reheaded.{HasChangedHeads, disk_in};
+ghost use Rattle.zd_repair.specs.Reheaded.{HasChangedHeads, IsKeptBut, IsLeftOrBut, KeepsFromBut, disk_in};
 ghost use Rattle.zd_repair.specs.Relabeled.{BlamesRelabel, CannotRelabel, ExplainsRelabel, RelabelLeaves, relabeled};
 
 use crate::heads::write_heads;
@@ -57,8 +56,9 @@ fn relabeled(head: &Super, label: [u8; 32]) -> Result<Super, RelabelFault>
 /// `Open` comes exactly where the disk is no volume, as [`open`] tells it; `Old` exactly where it is one of version
 /// 1; `Generation` exactly where it is one of version 2 whose generation is the last.
 ///
-/// At any answer, and in what a stop leaves at any moment, a volume is the same one, with the same content; and its
-/// label is the old or the new one from the end of opening on.
+/// At any answer, and in what a stop leaves at any moment, a volume is the same one, with the same content, and its
+/// label is the old or the new one: where a stop before would have left what the disk read as, and else from the
+/// end of the first flush on.
 pub fn relabel<D: ZonedDisk>(
     alloc: Global,
     mut disk: D,
@@ -69,11 +69,11 @@ pub fn relabel<D: ZonedDisk>(
     ensures leaves { IfErr result (λ e. RelabelLeaves label e.0 (D.view disk) (D.view e.1)) }
 
     // What the disk reads as, and what a stop leaves, at each moment of the call.
-    ensures way { ReachesBy IsLeftOrKept (D.view disk) (D.view (disk_in result)) }
-    ensures kept { Keeps IsKept (D.view disk) (D.view (disk_in result)) }
+    ensures way { ReachesBy (IsLeftOrBut (relabeled label)) (D.view disk) (D.view (disk_in result)) }
+    ensures kept { Keeps (IsKeptBut (relabeled label)) (D.view disk) (D.view (disk_in result)) }
     ensures settled { IfErr result (λ e. e.0 ≡ RelabelFault.Open OpenFault.Device →
         (D.view disk).calls + 2 ≤ (D.view e.1).calls) →
-        KeepsFrom ((D.view disk).calls + 1) (D.view disk) (D.view (disk_in result)) }
+        KeepsFromBut (relabeled label) ((D.view disk).calls + 1) (D.view disk) (D.view (disk_in result)) }
 
     ensures cause { IfErr result (λ e. BlamesRelabel e.0 → HasFailed (D.view disk) (D.view e.1)) }
 {
