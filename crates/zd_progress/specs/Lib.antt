@@ -1,0 +1,5 @@
+pub mod Stocks
+pub mod LoneRuns
+pub mod LoneSteps
+pub mod Measures
+pub mod Paces

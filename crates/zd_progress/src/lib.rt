@@ -1,0 +1,2 @@
+//! Why a run ends.
+#![tactic(auto)]
