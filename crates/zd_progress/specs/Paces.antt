@@ -1,5 +1,5 @@
 -- A run with the numbers of calls at which its pieces were entered, as the loop sees it that makes its steps.
-use Rattle.std.specs.Prelude.{◌≡◌, ◌≢◌, ℕ, zero, suc, ◌+◌, ◌*◌, ◌^◌, ◌<◌, ◌≤◌, Bool, true, false, ◌==◌}
+use Rattle.std.specs.Prelude.{◌≡◌, ◌≢◌, ℕ, zero, suc, ◌+◌, ◌-◌, ◌*◌, ◌^◌, ◌<◌, ◌≤◌, Bool, true, false, ◌==◌}
 use Rattle.std.specs.Prelude.{if◌then◌else◌, List, [], ◌∷◌, ◌++◌, length, slice_index, Option, Some, None}
 use Rattle.zd_base.specs.declared.numbers.Why.{Why}
 use Rattle.zd_base.specs.declared.numbers.Why.TheVariants.{Generation}
@@ -175,7 +175,16 @@ IsLastAnswer Idle = Unit {0}
 IsLastAnswer Over = Unit {0}
 IsLastAnswer (Stopped why) = Unit {0}
 
+-- so many steps that were made, each from where the one before left the loop
+abbrev pub MakesSteps : ℕ → LoopState → LoopState → Type 0
+MakesSteps zero a b = b ≡ a
+MakesSteps (suc n) a b = (next : LoopState) × IsMadeStep a next × MakesSteps n next b
+
 -- A WHOLE RUN: steps that were made, and one that ends it
-pub data IsWholeRun (a b : LoopState) : Type 0 where
-  ends : (answer : Stepped) → IsLastAnswer answer → LoopAnswers answer a b → IsWholeRun a b
-  goes_on : (next : LoopState) → IsMadeStep a next → IsWholeRun next b → IsWholeRun a b
+pub record IsWholeRun (a b : LoopState) : Type 0 where
+  pub count : ℕ
+  pub before : LoopState
+  pub steps : MakesSteps count a before
+  pub answer : Stepped
+  pub is_last : IsLastAnswer answer
+  pub ends : LoopAnswers answer before b
