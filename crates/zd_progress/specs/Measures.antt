@@ -11,7 +11,7 @@ use Rattle.zd_progress.specs.Stocks.{IsJobEnd, Stock}
 
 abbrev pub is_held_use : ZoneUse → Bool
 is_held_use Held = true
-is_held_use z = false
+is_held_use _ = false
 
 -- the conventional zones that are held, and the zones and buffers that entries name: each job that ends lessens the
 -- sum, and no other step that enters nothing touches it
