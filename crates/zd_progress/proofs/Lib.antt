@@ -1,3 +1,4 @@
 pub mod Counts
 pub mod Bounds
 pub mod CommitSpends
+pub mod OnConventional
