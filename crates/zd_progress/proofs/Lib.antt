@@ -4,3 +4,6 @@ pub mod CommitSpends
 pub mod OnConventional
 pub mod JobSpends
 pub mod FinishSpends
+pub mod LoneLaws
+pub mod Entries
+pub mod PaceLaws

@@ -81,9 +81,9 @@ pub record FinishesJob (a b : LoneRun) : Type 0 where
 -- a step by which no piece is entered, nor goes on
 pub data LoneStep (j : ℕ) (a b : LoneRun) : Type 0 where
   commits : CommitsOn a b → LoneStep j a b
-  begins : StartsJob j a b → LoneStep j a b
+  starts : StartsJob j a b → LoneStep j a b
   copies : CopiesOne a b → LoneStep j a b
-  remaps : FinishesJob a b → LoneStep j a b
+  finishes : FinishesJob a b → LoneStep j a b
 
 -- A PIECE GOES ON: a run of a read that isn't its last, or an edge of a write. Neither makes a writing call
 pub record FliesOn (a b : LoneRun) : Type 0 where
