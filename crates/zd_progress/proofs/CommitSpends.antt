@@ -6,7 +6,8 @@ use Rattle.zd_base.specs.declared.geometry.Kind.TheVariants.{Conventional, Seque
 use Rattle.zd_model.specs.declared.metadata.MapEntry.{MapEntry}
 use Rattle.zd_progress.specs.LoneRuns.{JobAhead, LoneRun, IsAlone, calls_by, calls_to_come, commit_calls, commits_by}
 use Rattle.zd_progress.specs.LoneRuns.{commits_now, commits_to_come, jobs_by, jobs_needed, jobs_to_come}
-use Rattle.zd_progress.specs.LoneSteps.{CommitsOn, Spends}
+use Rattle.zd_progress.specs.LoneSteps.{CommitsOn, IsCommitNeeded, Spends}
+use Rattle.zd_progress.specs.LoneSteps.IsCommitNeeded.{flush, zone}
 use Rattle.zd_progress.specs.Stocks.{Stock, free_of, in_limbo, limbo_of, on_count}
 use Rattle.zd_progress.proofs.Bounds.{times_more}
 use Rattle.zd_progress.proofs.Counts.{ended, free_when_ended, limbo_when_ended}
@@ -57,10 +58,10 @@ begun k = cond (nat_eq k 0) 1 0
 -- from k calls that are to come, over s, to l, over t
 module _ (j c d k l : ℕ) (s t : Stock) (few : commit_calls d ≤ c)
     (left : l + 1 ≡ cond (nat_eq k 0) (commit_calls d) k) (under : 0 < l → t ≡ s) (at_end : l ≡ 0 → t ≡ after s) where
-  record IsSpent (ready flush : Bool) : Type 0 where
-    jobs : jobs_by ready flush None t ≤ jobs_by false flush None s
-    commits : begun k + commits_by ready flush None l t ≤ commits_by false flush None k s
-    calls : 1 + calls_by j c ready flush None l t ≤ calls_by j c false flush None k s
+  record IsSpent (ready waits : Bool) : Type 0 where
+    jobs : jobs_by ready waits None t ≤ jobs_by false waits None s
+    commits : begun k + commits_by ready waits None l t ≤ commits_by false waits None k s
+    calls : 1 + calls_by j c ready waits None l t ≤ calls_by j c false waits None k s
 
   first_call : k ≡ 0 → (l + 1 ≤ c) × (begun k ≡ 1)
   first_call e = (
@@ -83,8 +84,8 @@ module _ (j c d k l : ℕ) (s t : Stock) (few : commit_calls d ≤ c)
     | inr done ↦ now_none l t (ap in_limbo (at_end (omega (arith, done))) ∙ limbo_after s)
   ]
 
-  spent : (ready flush : Bool) → (k ≡ 0 → (flush ≡ true) ⊎ (0 < in_limbo s)) → (flush ≡ true → 0 < l)
-      → IsSpent ready flush
+  spent : (ready waits : Bool) → (k ≡ 0 → (waits ≡ true) ⊎ (0 < in_limbo s)) → (waits ≡ true → 0 < l)
+      → IsSpent ready waits
   spent true true due goes_on = elim (cases_eq k 0) [
     | inl e ↦
         let f = first_call e in
@@ -145,23 +146,27 @@ module _ (j c d k l : ℕ) (s t : Stock) (few : commit_calls d ≤ c)
   ]
 
 -- what a run has before it, by what is ready, what waits and what is under way
-pub record IsNow (j c : ℕ) (r : LoneRun) (ready flush : Bool) (job : Option JobAhead) : Type 0 where
-  pub jobs : jobs_to_come r ≡ jobs_by ready flush job r.stock
-  pub commits : commits_to_come r ≡ commits_by ready flush job r.commit r.stock
-  pub calls : calls_to_come j c r ≡ calls_by j c ready flush job r.commit r.stock
+pub record IsNow (j c : ℕ) (r : LoneRun) (ready waits : Bool) (job : Option JobAhead) : Type 0 where
+  pub jobs : jobs_to_come r ≡ jobs_by ready waits job r.stock
+  pub commits : commits_to_come r ≡ commits_by ready waits job r.commit r.stock
+  pub calls : calls_to_come j c r ≡ calls_by j c ready waits job r.commit r.stock
 
-pub is_now : (j c : ℕ) (r : LoneRun) (ready flush : Bool) (job : Option JobAhead) → r.is_ready ≡ ready
-    → r.flush_waits ≡ flush → r.job ≡ job → IsNow j c r ready flush job
-is_now j c r ready flush job e f g = record {
+pub is_now : (j c : ℕ) (r : LoneRun) (ready waits : Bool) (job : Option JobAhead) → r.is_ready ≡ ready
+    → r.flush_waits ≡ waits → r.job ≡ job → IsNow j c r ready waits job
+is_now j c r ready waits job e f g = record {
   jobs = rw (e, f, g) refl;
   commits = rw (e, f, g) refl;
   calls = rw (e, f, g) refl;
 }
 
+waits_or_limbo : (r : LoneRun) → IsCommitNeeded r → (r.flush_waits ≡ true) ⊎ (0 < in_limbo r.stock)
+waits_or_limbo r (flush waits) = inl waits
+waits_or_limbo r (zone wanted some) = inr some
+
 pub commit_spends : (first j c : ℕ) (a b : LoneRun) → IsAlone first j c a → CommitsOn a b → Spends j c a b
 commit_spends first j c a b is step =
     let all = spent j c a.dirty a.commit b.commit a.stock b.stock is.dirty step.left step.under_way step.ended
-        b.is_ready a.flush_waits step.due step.goes_on in
+        b.is_ready a.flush_waits (λ idle. waits_or_limbo a (step.due idle)) step.goes_on in
     let before = is_now j c a false a.flush_waits None step.not_ready refl step.no_job in
     let now = is_now j c b b.is_ready a.flush_waits None refl step.flush step.no_job_yet in
     record {

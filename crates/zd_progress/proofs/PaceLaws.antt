@@ -4,10 +4,11 @@ use Rattle.std.proofs.Common.{None, subst, refl, sym, ap, ◌∙◌, arith}
 use Rattle.std.proofs.lemmas.Bool.{cases_Bool}
 use Rattle.zd_progress.specs.LoneRuns.{IsAlone, IsBeside, IsSound, JobAhead, LoneRun, commits_by, commits_to_come}
 use Rattle.zd_progress.specs.LoneRuns.{most_calls}
-use Rattle.zd_progress.specs.Paces.{AreClose, HaltsAt, IsAtLast, IsCommitNeeded, IsCounted, IsInTime, IsPaced, IsUnpaced}
+use Rattle.zd_progress.specs.LoneSteps.{IsCommitNeeded}
+use Rattle.zd_progress.specs.LoneSteps.IsCommitNeeded.{flush, zone}
+use Rattle.zd_progress.specs.Paces.{AreClose, HaltsAt, IsAtLast, IsCounted, IsInTime, IsPaced, IsUnpaced}
 use Rattle.zd_progress.specs.Paces.{Pace, PacesOn, at_before, under_way}
 use Rattle.zd_progress.specs.Paces.HaltsAt.{faults, silent}
-use Rattle.zd_progress.specs.Paces.IsCommitNeeded.{flush, zone}
 use Rattle.zd_progress.specs.Paces.PacesOn.{enters, flies, steps}
 use Rattle.zd_progress.proofs.CommitSpends.{now_one}
 use Rattle.zd_progress.proofs.Entries.{close_more, count_of, last_of}
@@ -107,26 +108,25 @@ counted_on j opening pieces a b is (enters s n more left counts) = record {
 }
 
 -- a commit that is due is among those that are to come
-one_commit : (first j c : ℕ) (r : LoneRun) → IsAlone first j c r → r.is_ready ≡ false → IsCommitNeeded r
-    → 1 ≤ commits_to_come r
-one_commit first j c r is off due = elim (cases_option r.job) [
+one_commit : (first j c : ℕ) (r : LoneRun) → IsAlone first j c r → r.is_ready ≡ false → r.commit ≡ 0
+    → IsCommitNeeded r → 1 ≤ commits_to_come r
+one_commit first j c r is off idle due = elim (cases_option r.job) [
   | inl none ↦ by due (cases_Bool r.flush_waits) none
   | inr (w, e) ↦ absurd (beside w (is.beside w e) due)
 ]
   where
     beside : (w : JobAhead) → IsBeside w r → IsCommitNeeded r → ⊥
-    beside w b (flush idle waits) = true≢false (sym waits ∙ b.no_flush)
-    beside w b (zone idle wanted some) = omega (arith, some, b.no_limbo)
+    beside w b (flush waits) = true≢false (sym waits ∙ b.no_flush)
+    beside w b (zone wanted some) = omega (arith, some, b.no_limbo)
+
+    waiting : r.flush_waits ≡ true → 1 ≤ commits_to_come r
+    waiting waits = let e : commits_to_come r ≡ 1 = rw (off, waits, idle) refl in omega (arith, e)
 
     by : IsCommitNeeded r → (r.flush_waits ≡ true) ⊎ (r.flush_waits ≡ false) → r.job ≡ None
         → 1 ≤ commits_to_come r
-    by (flush idle waits) cases none =
-        let e : commits_to_come r ≡ 1 = rw (off, waits, idle) refl in
-        omega (arith, e)
-    by (zone idle wanted some) (inl waits) none =
-        let e : commits_to_come r ≡ 1 = rw (off, waits, idle) refl in
-        omega (arith, e)
-    by (zone idle wanted some) (inr no_flush) none =
+    by (flush waits) cases none = waiting waits
+    by (zone wanted some) (inl waits) none = waiting waits
+    by (zone wanted some) (inr no_flush) none =
         let e : commits_to_come r ≡ commits_by false false None r.commit r.stock = rw (off, no_flush, none) refl in
         omega (arith, e, now_one r.commit r.stock idle some)
 
@@ -134,7 +134,7 @@ one_commit first j c r is off due = elim (cases_option r.job) [
 pub never_last : (first j c opening pieces : ℕ) (a : Pace) → IsPaced first j c a → IsCounted opening pieces a
     → opening + 3 * pieces + 2 ≤ 2 ^ 64 - 1 → IsAtLast a → ⊥
 never_last first j c opening pieces a is counted room at =
-    let one = one_commit first j c a.run is.alone at.not_ready at.due in
+    let one = one_commit first j c a.run is.alone at.not_ready at.idle at.due in
     omega (
       arith,
       one,

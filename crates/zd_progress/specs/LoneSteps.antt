@@ -1,17 +1,22 @@
 -- What each kind of step makes of a run that is alone.
-use Rattle.std.specs.Prelude.{◌≡◌, ◌⊎◌, ℕ, ◌+◌, ◌<◌, ◌≤◌, Bool, true, false, ◌==◌, if◌then◌else◌, length, map, set}
+use Rattle.std.specs.Prelude.{◌≡◌, ℕ, ◌+◌, ◌<◌, ◌≤◌, Bool, true, false, ◌==◌, if◌then◌else◌, length, map, set}
 use Rattle.std.specs.Prelude.{Option, Some, None}
 use Rattle.zd_base.specs.declared.geometry.Kind.TheVariants.{Conventional}
 use Rattle.zd_alloc.specs.Zones.{after_limbo, use_after_release}
 use Rattle.zd_progress.specs.LoneRuns.{JobAhead, LoneRun, calls_to_come, commit_calls, commits_to_come, jobs_to_come}
 use Rattle.zd_progress.specs.Stocks.{IsPickedFor, free_of, in_limbo}
 
+-- WHY A COMMIT IS DUE: a flush waits, or a zone is wanted and one is in limbo
+pub data IsCommitNeeded (r : LoneRun) : Type 0 where
+  flush : r.flush_waits ≡ true → IsCommitNeeded r
+  zone : r.is_wanted ≡ true → 0 < in_limbo r.stock → IsCommitNeeded r
+
 -- THE NEXT CALL OF A COMMIT, by which no piece is entered
 pub record CommitsOn (a b : LoneRun) : Type 0 where
   pub not_ready : a.is_ready ≡ false
   pub no_job : a.job ≡ None
   pub no_job_yet : b.job ≡ None
-  pub due : a.commit ≡ 0 → (a.flush_waits ≡ true) ⊎ (0 < in_limbo a.stock)
+  pub due : a.commit ≡ 0 → IsCommitNeeded a
   pub flush : b.flush_waits ≡ a.flush_waits
   pub goes_on : a.flush_waits ≡ true → 0 < b.commit
   pub left : b.commit + 1 ≡ (if a.commit == 0 then commit_calls a.dirty else a.commit)
@@ -21,7 +26,7 @@ pub record CommitsOn (a b : LoneRun) : Type 0 where
   }
   pub begun : b.commits ≡ a.commits + (if a.commit == 0 then 1 else 0)
   pub jobs : b.jobs ≡ a.jobs
-  pub calls : b.calls ≡ a.calls + 1
+  pub calls : b.calls ≤ a.calls + 1
 
 -- A JOB BEGINS that was due for want of a zone
 pub record StartsJob (j : ℕ) (a b : LoneRun) : Type 0 where

@@ -6,9 +6,8 @@ use Rattle.zd_base.specs.declared.numbers.Why.TheVariants.{Generation}
 use Rattle.zd_base.specs.declared.steps.Stepped.{Stepped}
 use Rattle.zd_base.specs.declared.steps.Stepped.TheVariants.{Did, Idle, Over, Stopped}
 use Rattle.zd_progress.specs.LoneRuns.{IsAlone, IsSound, LoneRun, calls_to_come, commits_to_come, jobs_to_come, most_calls}
-use Rattle.zd_progress.specs.LoneSteps.{EntersNow, FliesOn, LoneStep}
+use Rattle.zd_progress.specs.LoneSteps.{EntersNow, FliesOn, IsCommitNeeded, LoneStep}
 use Rattle.zd_progress.specs.Measures.{IsRestWithin, Lessens, Rest}
-use Rattle.zd_progress.specs.Stocks.{in_limbo}
 
 -- the number of the entry before this one, or 0
 abbrev pub at_before : List ℕ → ℕ → ℕ
@@ -54,12 +53,7 @@ pub data HaltsAt (a b : Pace) : Type 0 where
   silent : b.ats ≡ a.ats → HaltsAt a b
   faults : (at n : ℕ) → at ≤ a.run.calls + 1 → b.ats ≡ with_entries at (suc n) a.ats → HaltsAt a b
 
--- a commit is due: a flush waits, or a zone is wanted and one is in limbo
-pub data IsCommitNeeded (r : LoneRun) : Type 0 where
-  flush : r.commit ≡ 0 → r.flush_waits ≡ true → IsCommitNeeded r
-  zone : r.commit ≡ 0 → r.is_wanted ≡ true → 0 < in_limbo r.stock → IsCommitNeeded r
-
--- it was due at the last generation
+-- a commit was due at the last generation
 pub record IsAtLast (a : Pace) : Type 0 where
   pub left : 0 < a.left
   pub not_ready : a.run.is_ready ≡ false
