@@ -7,3 +7,4 @@ pub mod FinishSpends
 pub mod LoneLaws
 pub mod Entries
 pub mod PaceLaws
+pub mod WaitLaws

@@ -3,3 +3,4 @@ pub mod LoneRuns
 pub mod LoneSteps
 pub mod Measures
 pub mod Paces
+pub mod Alone
