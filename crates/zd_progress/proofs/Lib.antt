@@ -8,3 +8,4 @@ pub mod LoneLaws
 pub mod Entries
 pub mod PaceLaws
 pub mod WaitLaws
+pub mod AloneLaws
