@@ -9,3 +9,5 @@ pub mod Entries
 pub mod PaceLaws
 pub mod WaitLaws
 pub mod AloneLaws
+pub mod MeasureLaws
+pub mod JobEnds
