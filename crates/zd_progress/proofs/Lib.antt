@@ -11,3 +11,4 @@ pub mod WaitLaws
 pub mod AloneLaws
 pub mod MeasureLaws
 pub mod JobEnds
+pub mod Loops
