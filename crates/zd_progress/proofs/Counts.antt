@@ -1,9 +1,10 @@
 -- How many zones of a kind are free, and how many are in limbo.
-use Rattle.std.proofs.Common.{◌≡◌, ◌≢◌, ℕ, ◌+◌, ◌-◌, ◌<◌, ◌≤◌, Bool, true, false, cond, List, [], ◌∷◌, length, get_or, map}
-use Rattle.std.proofs.Common.{count_by, refl, ap, ◌∙◌, true≢false, arith}
+use Rattle.std.proofs.Common.{◌≡◌, ◌≢◌, ℕ, ◌+◌, ◌-◌, ◌<◌, ◌≤◌, Bool, true, false, cond, ◌||◌, nat_lt, List, [], ◌∷◌, length, get_or, map}
+use Rattle.std.proofs.Common.{count_by, inl, inr, refl, sym, ap, ◌∙◌, true≢false, arith}
+use Rattle.std.specs.List.{list_any}
 use Rattle.std.proofs.lemmas.List.{get_or-take, get_or-drop, length-drop, length-take-le, take-map, drop-map}
-use Rattle.std.proofs.lemmas.List.Sums.{get_or-le-sum_by, sum_by-cons}
-use Rattle.std.proofs.lemmas.Bool.{false_from_ne_true}
+use Rattle.std.proofs.lemmas.List.Sums.{get_or-le-sum_by, sum_by-cons, sum_by-take-drop}
+use Rattle.std.proofs.lemmas.Bool.{cases_Bool, false_from_ne_true, lt-ltb, or_left}
 use Rattle.zd_base.specs.declared.geometry.Kind.{Kind}
 use Rattle.zd_base.specs.declared.geometry.Kind.TheVariants.{Conventional, Sequential}
 use Rattle.zd_alloc.specs.Zones.{Division, use_at, uses_of, is_free, is_limbo, after_limbo, use_after_release, IsOf}
@@ -121,3 +122,21 @@ free_when_ended kind d = ap (count_by is_free) (uses_ended kind d) ∙ free_ende
 
 pub limbo_when_ended : (kind : Kind) (d : Division) → count_by is_limbo (uses_of kind (ended d)) ≡ 0
 limbo_when_ended kind d = ap (count_by is_limbo) (uses_ended kind d) ∙ limbo_ended (uses_of kind d)
+
+-- some zone is in limbo exactly where one of either kind is
+some_counts : (such : ZoneUse → Bool) (us : List ZoneUse) → list_any such us ≡ nat_lt 0 (count_by such us)
+some_counts such [] = refl
+some_counts such (u ∷ us) = elim (cases_Bool (such u)) [
+  | inl ok ↦
+      let here : one such u ≡ 1 = ap (λ (b : Bool). cond b 1 0) ok in
+      or_left (such u) (list_any such us) ok
+      ∙ sym (lt-ltb 0 (count_by such (u ∷ us)) (omega (arith, here, sum_by-cons (one such) u us)))
+  | inr ng ↦
+      let none : one such u ≡ 0 = ap (λ (b : Bool). cond b 1 0) ng in
+      let same : count_by such us ≡ count_by such (u ∷ us) = omega (arith, none, sum_by-cons (one such) u us) in
+      ap (λ (b : Bool). b || list_any such us) ng ∙ some_counts such us ∙ ap (nat_lt 0) same
+]
+
+pub limbo_in_all : (d : Division) → list_any is_limbo d.zones
+    ≡ nat_lt 0 (count_by is_limbo (uses_of Conventional d) + count_by is_limbo (uses_of Sequential d))
+limbo_in_all d = some_counts is_limbo d.zones ∙ ap (nat_lt 0) (sym (sum_by-take-drop (one is_limbo) d.zones d.conv))

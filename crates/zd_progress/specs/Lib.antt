@@ -4,3 +4,4 @@ pub mod LoneSteps
 pub mod Measures
 pub mod Paces
 pub mod Alone
+pub mod Laws
