@@ -12,3 +12,4 @@ pub mod Choices
 pub mod Images
 pub mod Remains
 pub mod Steps
+pub mod Loops

@@ -11,6 +11,7 @@ pub mod layouts;
 pub mod remains;
 pub mod reports;
 pub mod requests;
+pub mod runs;
 pub mod scripts;
 pub mod steps;
 pub mod stops;
