@@ -131,11 +131,11 @@ module _ (q : QueueState) (is : IsQueue q.chunk_blocks q.callers q.flights) (ent
         no_commit = (
             let none = ltb-false 0 l.commit (sym seen.commits ∙ both.0) in
             omega (arith, none)
-        );
+            );
         no_limbo = (
             let none = ltb-false 0 (in_limbo l.stock) (sym seen.limbo ∙ rest.1 some) in
             omega (arith, none)
-        );
+            );
         wanted = seen.wanted ∙ some;
       }
 
@@ -144,8 +144,8 @@ module _ (q : QueueState) (is : IsQueue q.chunk_blocks q.callers q.flights) (ent
   by_job None same is_job only =
       let none = no_job l.job (sym same) in
       let picks = may_begin (is_wanted r v) v.has_limbo v.commits (is_low v) v.picks
-          (sym seen.wanted ∙ only.wanted) (seen.limbo ∙ le-ltb 0 (in_limbo l.stock) (let e = only.no_limbo in omega (arith, e)))
-          (idle_commit only.no_commit) in
+      (sym seen.wanted ∙ only.wanted) (seen.limbo ∙ le-ltb 0 (in_limbo l.stock) (let e = only.no_limbo in omega (arith, e)))
+      (idle_commit only.no_commit) in
       let is_due : is_job_due v (is_wanted r v) ≡ v.picks = rw is_job picks in
       elim (cases_Bool v.picks) [
         | inl ok ↦ subst (TellsNext l v) (sym (cond-true (is_job_due v (is_wanted r v)) (Some Begin) None (is_due ∙ ok)))

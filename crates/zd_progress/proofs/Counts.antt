@@ -36,8 +36,7 @@ place_of Conventional d z few inside of = (
   },
 )
 place_of Sequential d z few inside of =
-    let at : d.conv + (z - d.conv) ≡ z = omega (arith, of) in
-    (
+    let at : d.conv + (z - d.conv) ≡ z = omega (arith, of) in (
       z - d.conv,
       record {
         inside = omega (arith, of, inside, length-drop d.conv d.zones);
@@ -95,7 +94,7 @@ free_ended (u ∷ us) = omega (
   free_after u,
   sum_by-cons (one is_free) (after_limbo u) (map after_limbo us),
   sum_by-cons (one is_free) u us,
-  sum_by-cons (one is_limbo) u us
+  sum_by-cons (one is_limbo) u us,
 )
 
 limbo_ended : (us : List ZoneUse) → count_by is_limbo (map after_limbo us) ≡ 0
@@ -104,7 +103,7 @@ limbo_ended (u ∷ us) = omega (
   arith,
   limbo_ended us,
   limbo_after u,
-  sum_by-cons (one is_limbo) (after_limbo u) (map after_limbo us)
+  sum_by-cons (one is_limbo) (after_limbo u) (map after_limbo us),
 )
 
 -- limbo has ended

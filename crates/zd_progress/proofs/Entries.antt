@@ -18,7 +18,7 @@ close_one : (most at : ℕ) (ats : List ℕ) → AreClose most ats → at ≤ at
 close_one most at ats are near i inside = elim (cases_lt i (length ats)) [
   | inl less ↦
       let e : slice_index (ats ++ at ∷ []) i ≡ slice_index ats i =
-          get_or_append_left ats (at ∷ []) 0 i less in
+      get_or_append_left ats (at ∷ []) 0 i less in
       omega (arith, are i less, e, same_before ats at i (omega (arith, less)))
   | inr past ↦
       let here : i ≡ length ats = omega (arith, past, inside, length-append ats (at ∷ [])) in

@@ -53,23 +53,23 @@ module _ (first j c : ℕ) (a b : LoneRun) (is : IsAlone first j c a) (step : Fi
   no_more = elim (cases_lt step.job.source old.division.conv) [
     | inl low ↦
         let none : jobs_needed new ≤ 0 = if_true
-            (nat_lt 0 (free_of Conventional new + limbo_of Conventional new))
-            _
-            (lt-ltb 0 (free_of Conventional new + limbo_of Conventional new) (given Conventional low)) in
+        (nat_lt 0 (free_of Conventional new + limbo_of Conventional new))
+        _
+        (lt-ltb 0 (free_of Conventional new + limbo_of Conventional new) (given Conventional low)) in
         omega (arith, none)
     | inr high ↦
         let one : jobs_behind old.division.conv step.job ≡ 1 =
-            rw (le-ltb step.job.source old.division.conv high) refl in
+        rw (le-ltb step.job.source old.division.conv high) refl in
         let on : 0 < on_count new.division.conv new.entries =
-            rw (step.conv, step.entries) ((is.beside step.job step.was).on high) in
+        rw (step.conv, step.entries) ((is.beside step.job step.was).on high) in
         let most : jobs_needed new ≤ 1 = if_most
-            (nat_lt 0 (free_of Conventional new + limbo_of Conventional new)) 1
-            _
-            (if_both
-            (nat_lt 0 (on_count new.division.conv new.entries))
-            (nat_lt 0 (free_of Sequential new + limbo_of Sequential new))
-            (lt-ltb 0 (on_count new.division.conv new.entries) on)
-            (lt-ltb 0 (free_of Sequential new + limbo_of Sequential new) (given Sequential high))) in
+        (nat_lt 0 (free_of Conventional new + limbo_of Conventional new)) 1
+        _
+        (if_both
+        (nat_lt 0 (on_count new.division.conv new.entries))
+        (nat_lt 0 (free_of Sequential new + limbo_of Sequential new))
+        (lt-ltb 0 (on_count new.division.conv new.entries) on)
+        (lt-ltb 0 (free_of Sequential new + limbo_of Sequential new) (given Sequential high))) in
         omega (arith, one, most)
   ]
 

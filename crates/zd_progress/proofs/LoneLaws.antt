@@ -49,7 +49,7 @@ module _ (first j c : ℕ) (a b : LoneRun) (is : IsAlone first j c a) where
     few_calls = (
         let e : job_calls b.job ≡ s.job.calls = ap job_calls s.is in
         omega (arith, e, s.calls, s.later)
-    );
+        );
     commit = omega (arith, s.same_commit);
     dirty = sound.dirty;
   }
@@ -61,7 +61,7 @@ module _ (first j c : ℕ) (a b : LoneRun) (is : IsAlone first j c a) where
         let e : job_calls b.job ≡ s.left = ap job_calls s.is in
         let f : job_calls a.job ≡ s.job.calls = ap job_calls s.was in
         omega (arith, e, f, s.calls, s.later, is.few_calls)
-    );
+        );
     commit = omega (arith, s.same_commit, is.commit);
     dirty = sound.dirty;
   }

@@ -76,7 +76,7 @@ module _ (s a : LoopState) (limits : KeepsLimits s a) (paced : IsPacedLoop a) wh
       arith,
       limits.opening,
       limits.pieces,
-      may_close a.first a.job_calls a.commit_calls a.opening a.pieces a.pace paced.is paced.counted none
+      may_close a.first a.job_calls a.commit_calls a.opening a.pieces a.pace paced.is paced.counted none,
     );
   }
 

@@ -123,7 +123,7 @@ module _ (q : QueueState) (is : IsQueue q.chunk_blocks q.callers q.flights) (ent
     not_on p None k at on = false≢true on
     not_on p (Some x) k at on =
         let mine : slice_get q.flights actor ≡ Some (Some x) =
-            ap (slice_get q.flights) (sym (alone k x at)) ∙ at in
+        ap (slice_get q.flights) (sym (alone k x at)) ∙ at in
         none-some x (sym none ∙ get_or_from_slice_get q.flights actor (Some x) None mine)
 
     not_held : (p : Piece) → is_held r p ≡ false
@@ -145,10 +145,9 @@ module _ (q : QueueState) (is : IsQueue q.chunk_blocks q.callers q.flights) (ent
         ] in
         let p : Piece = get_or h.pieces (head_of h caller) nobody in
         let at : slice_get h.pieces (head_of h caller) ≡ Some p =
-            slice_get-get_or h.pieces (head_of h caller) nobody (omega (arith, head, inside)) in
+        slice_get-get_or h.pieces (head_of h caller) nobody (omega (arith, head, inside)) in
         let same : head_of h caller ≡ head_of h p.caller =
-            ap (head_of h) (sym (is.heads.own caller p at)) in
-        (
+        ap (head_of h) (sym (is.heads.own caller p at)) in (
           head_of h caller,
           p,
           at,
@@ -161,8 +160,8 @@ module _ (q : QueueState) (is : IsQueue q.chunk_blocks q.callers q.flights) (ent
         let some = eligible left in
         let p : Piece = some.1 in
         let off : is_ready v p ≡ false = false_from_ne_true (is_ready v p) (λ ready.
-            false≢true (sym (not_found (is_servable r v) h.pieces some.0 p unserved some.2)
-            ∙ and_from (is_eligible r p) (is_ready v p) some.3 ready)) in
+        false≢true (sym (not_found (is_servable r v) h.pieces some.0 p unserved some.2)
+        ∙ and_from (is_eligible r p) (is_ready v p) some.3 ready)) in
         elim (waits v p idle off) [
           | inl flush ↦ absurd (false≢true (sym no_flush
               ∙ in-any (is_eligible_flush r) p h.pieces (place-in p h.pieces some.0 some.2)
