@@ -1,8 +1,8 @@
 //! How many values a sector had at each stop of a run.
 
-use crate::fresh::fresh;
 use crate::run::expect;
 use std::test::Fail;
+use test_volumes::volumes::fresh;
 use zd_base::ZoneNo;
 
 /// The writing calls of opening a volume whose sets are equal: three flushes and a super block.
@@ -10,7 +10,7 @@ const OPENING: u64 = 4;
 
 #[test]
 fn a_sector_has_values_until_the_next_flush(rt: HostRuntime) -> Result<(), Fail> {
-    let disk = fresh(&rt)?;
+    let disk = fresh(rt.alloc())?;
     let opened = disk.calls().saturating_add(OPENING);
     let disk = expect(
         &rt,
