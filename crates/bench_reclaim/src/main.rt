@@ -257,7 +257,13 @@ fn store_often(numbers: &mut [u64], rounds: u32, stride: u64) -> u32 {
 }
 
 /// Does so over a volume what is asked.
-fn measure<D: ZonedDisk>(volume: Volume<D>, alloc: Global, rounds: u32, stride: u64, how: &str) -> Option<Done> {
+fn measure<D: ZonedDisk>(
+    volume: Volume<D>,
+    alloc: Global,
+    rounds: u32,
+    stride: u64,
+    how: &str,
+) -> Option<Done> {
     match how {
         "pick" => Some(without_calls(pick_often(&volume, rounds))),
         "due" => Some(without_calls(ask_often(&volume, rounds))),
