@@ -95,7 +95,7 @@ module _ (j c : ℕ) (s : Stock) (some : 1 ≤ c) where
 pub are_few : (first j c : ℕ) (r : LoneRun) → 1 ≤ c → IsAlone first j c r → AreFew j c r
 are_few first j c r some is =
     let all = bounded j c r.stock some r.is_ready r.flush_waits r.job r.commit is.commit is.few_calls
-        (λ w e. let b = is.beside w e in (b.no_flush, b.no_commit)) in
+    (λ w e. let b = is.beside w e in (b.no_flush, b.no_commit)) in
     record { jobs = all.jobs; commits = all.commits; calls = all.calls }
 
 -- a commit makes no more calls than T3.3 counts: d dirty blocks are among the used ones behind the super block

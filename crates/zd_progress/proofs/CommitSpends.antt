@@ -166,7 +166,7 @@ waits_or_limbo r (zone wanted some) = inr some
 pub commit_spends : (first j c : ℕ) (a b : LoneRun) → IsAlone first j c a → CommitsOn a b → Spends j c a b
 commit_spends first j c a b is step =
     let all = spent j c a.dirty a.commit b.commit a.stock b.stock is.dirty step.left step.under_way step.ended
-        b.is_ready a.flush_waits (λ idle. waits_or_limbo a (step.due idle)) step.goes_on in
+    b.is_ready a.flush_waits (λ idle. waits_or_limbo a (step.due idle)) step.goes_on in
     let before = is_now j c a false a.flush_waits None step.not_ready refl step.no_job in
     let now = is_now j c b b.is_ready a.flush_waits None refl step.flush step.no_job_yet in
     record {

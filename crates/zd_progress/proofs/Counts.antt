@@ -1,5 +1,6 @@
 -- How many zones of a kind are free, and how many are in limbo.
-use Rattle.std.proofs.Common.{◌≡◌, ◌≢◌, ℕ, ◌+◌, ◌-◌, ◌<◌, ◌≤◌, Bool, true, false, cond, ◌||◌, nat_lt, List, [], ◌∷◌, length, get_or, map}
+use Rattle.std.proofs.Common.{◌≡◌, ◌≢◌, ℕ, ◌+◌, ◌-◌, ◌<◌, ◌≤◌, Bool, true, false, cond, ◌||◌, nat_lt, List, [], ◌∷◌}
+use Rattle.std.proofs.Common.{length, get_or, map}
 use Rattle.std.proofs.Common.{count_by, inl, inr, refl, sym, ap, ◌∙◌, true≢false, arith}
 use Rattle.std.specs.List.{list_any}
 use Rattle.std.proofs.lemmas.List.{get_or-take, get_or-drop, length-drop, length-take-le, take-map, drop-map}
@@ -36,8 +37,7 @@ place_of Conventional d z few inside of = (
   },
 )
 place_of Sequential d z few inside of =
-    let at : d.conv + (z - d.conv) ≡ z = omega (arith, of) in
-    (
+    let at : d.conv + (z - d.conv) ≡ z = omega (arith, of) in (
       z - d.conv,
       record {
         inside = omega (arith, of, inside, length-drop d.conv d.zones);
@@ -95,7 +95,7 @@ free_ended (u ∷ us) = omega (
   free_after u,
   sum_by-cons (one is_free) (after_limbo u) (map after_limbo us),
   sum_by-cons (one is_free) u us,
-  sum_by-cons (one is_limbo) u us
+  sum_by-cons (one is_limbo) u us,
 )
 
 limbo_ended : (us : List ZoneUse) → count_by is_limbo (map after_limbo us) ≡ 0
@@ -104,7 +104,7 @@ limbo_ended (u ∷ us) = omega (
   arith,
   limbo_ended us,
   limbo_after u,
-  sum_by-cons (one is_limbo) (after_limbo u) (map after_limbo us)
+  sum_by-cons (one is_limbo) (after_limbo u) (map after_limbo us),
 )
 
 -- limbo has ended

@@ -1,5 +1,6 @@
 -- Entries more.
-use Rattle.std.proofs.Common.{◌≡◌, inl, inr, ℕ, zero, suc, ◌+◌, ◌-◌, ◌≤◌, List, [], ◌∷◌, ◌++◌, length, slice_index, refl, ap}
+use Rattle.std.proofs.Common.{◌≡◌, inl, inr, ℕ, zero, suc, ◌+◌, ◌-◌, ◌≤◌, List, [], ◌∷◌, ◌++◌, length, slice_index}
+use Rattle.std.proofs.Common.{refl, ap}
 use Rattle.std.proofs.Common.{◌∙◌, arith, length-append}
 use Rattle.std.proofs.lemmas.Bool.{cases_lt}
 use Rattle.std.proofs.lemmas.List.{get_or_append_left, get_or-append_right}
@@ -18,7 +19,7 @@ close_one : (most at : ℕ) (ats : List ℕ) → AreClose most ats → at ≤ at
 close_one most at ats are near i inside = elim (cases_lt i (length ats)) [
   | inl less ↦
       let e : slice_index (ats ++ at ∷ []) i ≡ slice_index ats i =
-          get_or_append_left ats (at ∷ []) 0 i less in
+      get_or_append_left ats (at ∷ []) 0 i less in
       omega (arith, are i less, e, same_before ats at i (omega (arith, less)))
   | inr past ↦
       let here : i ≡ length ats = omega (arith, past, inside, length-append ats (at ∷ [])) in

@@ -1,5 +1,6 @@
 -- A job ends: no more is to come than before, since what it gave back is free or in limbo.
-use Rattle.std.proofs.Common.{◌≡◌, inl, inr, ℕ, ◌+◌, ◌*◌, ◌<◌, ◌≤◌, Bool, true, false, cond, ◌&&◌, nat_lt, length, Some, None}
+use Rattle.std.proofs.Common.{◌≡◌, inl, inr, ℕ, ◌+◌, ◌*◌, ◌<◌, ◌≤◌, Bool, true, false, cond, ◌&&◌, nat_lt, length, Some}
+use Rattle.std.proofs.Common.{None}
 use Rattle.std.proofs.Common.{subst, refl, sym, ap, ◌∙◌, arith, get_or-set_same, length-set}
 use Rattle.std.proofs.Math.Nat.{mul-le-mul_left}
 use Rattle.std.proofs.lemmas.Bool.{cases_lt, lt-ltb, le-ltb}
@@ -53,23 +54,23 @@ module _ (first j c : ℕ) (a b : LoneRun) (is : IsAlone first j c a) (step : Fi
   no_more = elim (cases_lt step.job.source old.division.conv) [
     | inl low ↦
         let none : jobs_needed new ≤ 0 = if_true
-            (nat_lt 0 (free_of Conventional new + limbo_of Conventional new))
-            _
-            (lt-ltb 0 (free_of Conventional new + limbo_of Conventional new) (given Conventional low)) in
+        (nat_lt 0 (free_of Conventional new + limbo_of Conventional new))
+        _
+        (lt-ltb 0 (free_of Conventional new + limbo_of Conventional new) (given Conventional low)) in
         omega (arith, none)
     | inr high ↦
         let one : jobs_behind old.division.conv step.job ≡ 1 =
-            rw (le-ltb step.job.source old.division.conv high) refl in
+        rw (le-ltb step.job.source old.division.conv high) refl in
         let on : 0 < on_count new.division.conv new.entries =
-            rw (step.conv, step.entries) ((is.beside step.job step.was).on high) in
+        rw (step.conv, step.entries) ((is.beside step.job step.was).on high) in
         let most : jobs_needed new ≤ 1 = if_most
-            (nat_lt 0 (free_of Conventional new + limbo_of Conventional new)) 1
-            _
-            (if_both
-            (nat_lt 0 (on_count new.division.conv new.entries))
-            (nat_lt 0 (free_of Sequential new + limbo_of Sequential new))
-            (lt-ltb 0 (on_count new.division.conv new.entries) on)
-            (lt-ltb 0 (free_of Sequential new + limbo_of Sequential new) (given Sequential high))) in
+        (nat_lt 0 (free_of Conventional new + limbo_of Conventional new)) 1
+        _
+        (if_both
+        (nat_lt 0 (on_count new.division.conv new.entries))
+        (nat_lt 0 (free_of Sequential new + limbo_of Sequential new))
+        (lt-ltb 0 (on_count new.division.conv new.entries) on)
+        (lt-ltb 0 (free_of Sequential new + limbo_of Sequential new) (given Sequential high))) in
         omega (arith, one, most)
   ]
 

@@ -1,5 +1,6 @@
 -- A job that ends leaves fewer held conventional zones, or fewer zones and buffers that entries name.
-use Rattle.std.proofs.Common.{◌≡◌, inl, inr, ℕ, ◌+◌, ◌<◌, ◌≤◌, Bool, true, false, cond, List, length, get_or, set, take, None}
+use Rattle.std.proofs.Common.{◌≡◌, inl, inr, ℕ, ◌+◌, ◌<◌, ◌≤◌, Bool, true, false, cond, List, length, get_or, set, take}
+use Rattle.std.proofs.Common.{None}
 use Rattle.std.proofs.Common.{count_by, is_some, refl, ap, ap₂, ◌∙◌, arith}
 use Rattle.std.proofs.Math.Seq.{take-set-lt}
 use Rattle.std.proofs.lemmas.Bool.{cases_lt}
@@ -44,18 +45,18 @@ module _ (w : JobAhead) (a b : Stock) (is : EndsJob w a b) where
   held_low : w.source < a.division.conv → held_in b + 1 ≡ held_in a
   held_low low =
       let e : take a.division.conv (set a.division.zones w.source given) ≡ set uses w.source given =
-          take-set-lt a.division.conv a.division.zones w.source given low in
+      take-set-lt a.division.conv a.division.zones w.source given low in
       let inside : w.source < length uses =
-          omega (arith, low, length-take-le a.division.conv a.division.zones is.kinds) in
+      omega (arith, low, length-take-le a.division.conv a.division.zones is.kinds) in
       let was : one (is_held_use (get_or uses w.source Meta)) ≡ 1 =
-          ap (λ (u : ZoneUse). one (is_held_use u))
-          (get_or-take a.division.conv a.division.zones w.source Meta low ∙ is.held) in
+      ap (λ (u : ZoneUse). one (is_held_use u))
+      (get_or-take a.division.conv a.division.zones w.source Meta low ∙ is.held) in
       let now : one (is_held_use given) ≡ 0 = ap one (not_held is.by_commit) in
       let sums : count_by is_held_use (set uses w.source given) + one (is_held_use (get_or uses w.source Meta))
-          ≡ count_by is_held_use uses + one (is_held_use given) =
-          sum_by-set (λ (u : ZoneUse). one (is_held_use u)) uses w.source given Meta inside in
+      ≡ count_by is_held_use uses + one (is_held_use given) =
+      sum_by-set (λ (u : ZoneUse). one (is_held_use u)) uses w.source given Meta inside in
       let moved : held_in b ≡ count_by is_held_use (set uses w.source given) =
-          ap (count_by is_held_use) (same_uses ∙ e) in
+      ap (count_by is_held_use) (same_uses ∙ e) in
       omega (arith, sums, was, now, moved)
 
   held_high : a.division.conv ≤ w.source → held_in b ≡ held_in a
@@ -77,10 +78,10 @@ module _ (w : JobAhead) (a b : Stock) (is : EndsJob w a b) where
   counted test =
       let nothing : MapEntry = record { zone = None; buffer = None } in
       let sums : count_by test (set a.entries w.chunk w.result) + one (test (get_or a.entries w.chunk nothing))
-          ≡ count_by test a.entries + one (test w.result) =
-          sum_by-set (λ (e : MapEntry). one (test e)) a.entries w.chunk w.result nothing is.inside in
+      ≡ count_by test a.entries + one (test w.result) =
+      sum_by-set (λ (e : MapEntry). one (test e)) a.entries w.chunk w.result nothing is.inside in
       let moved : count_by test b.entries ≡ count_by test (set a.entries w.chunk w.result) =
-          ap (count_by test) is.entries in
+      ap (count_by test) is.entries in
       omega (arith, sums, moved)
 
   abbrev has_zone : MapEntry → Bool
@@ -101,7 +102,7 @@ module _ (w : JobAhead) (a b : Stock) (is : EndsJob w a b) where
       omega (arith, held_low low, counted has_zone, counted has_buffer, z, one_most (has_zone w.result), no_buffer)
   by_entry (appends low buffer result) =
       let same : one (has_zone w.result) ≡ one (has_zone entry) =
-          ap (λ (e : MapEntry). one (has_zone e)) result in
+      ap (λ (e : MapEntry). one (has_zone e)) result in
       let no_buffer : one (has_buffer w.result) ≡ 0 = ap (λ (e : MapEntry). one (has_buffer e)) result in
       omega (arith, held_low low, counted has_zone, counted has_buffer, same, no_buffer)
   by_entry (merges y zone buffer result) =
@@ -116,7 +117,7 @@ module _ (w : JobAhead) (a b : Stock) (is : EndsJob w a b) where
         z,
         one_most (has_zone w.result),
         some,
-        no_buffer
+        no_buffer,
       )
 
   pub fewer_jobs : jobs_ever b < jobs_ever a

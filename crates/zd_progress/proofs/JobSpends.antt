@@ -1,5 +1,6 @@
 -- A job begins, and copies: no more is to come than before.
-use Rattle.std.proofs.Common.{◌≡◌, inl, inr, ℕ, ◌+◌, ◌*◌, ◌<◌, ◌≤◌, Bool, false, cond, ◌&&◌, nat_lt, set, Some, None, subst}
+use Rattle.std.proofs.Common.{◌≡◌, inl, inr, ℕ, ◌+◌, ◌*◌, ◌<◌, ◌≤◌, Bool, false, cond, ◌&&◌, nat_lt, set, Some, None}
+use Rattle.std.proofs.Common.{subst}
 use Rattle.std.proofs.Common.{refl, sym, ap, ◌∙◌, arith}
 use Rattle.std.proofs.Math.Nat.{mul-le-mul_left}
 use Rattle.std.proofs.lemmas.Bool.{cases_Bool, lt-ltb, le-ltb, ltb-true, and_parts}
@@ -31,8 +32,8 @@ module _ (first j c : ℕ) (a b : LoneRun) (is : IsAlone first j c a) (step : St
   -- one or two jobs are needed
   needed : jobs_needed s ≡ cond (some_on && some_high) 1 2
   needed = rw (
-    le-ltb 0 (free_of Conventional s + limbo_of Conventional s) (omega (arith, none_free, none_in_limbo))
-  ) refl
+      le-ltb 0 (free_of Conventional s + limbo_of Conventional s) (omega (arith, none_free, none_in_limbo))
+      ) refl
 
   -- where it is one, this one gives a conventional zone back
   one_less : jobs_behind s.division.conv step.job + 1 ≤ jobs_needed s
@@ -41,11 +42,11 @@ module _ (first j c : ℕ) (a b : LoneRun) (is : IsAlone first j c a) (step : St
         let both = and_parts some_on some_high ok in
         let l = step.no_limbo in
         let some : 0 < free_of Sequential s =
-            omega (arith, l, ltb-true 0 (free_of Sequential s + limbo_of Sequential s) both.1) in
+        omega (arith, l, ltb-true 0 (free_of Sequential s + limbo_of Sequential s) both.1) in
         let on = is_on s.division.conv s.entries (ltb-true 0 (on_count s.division.conv s.entries) both.0) in
         let low = gives_low s step.job.chunk step.job.source step.job.result step.picked on some in
         let none : jobs_behind s.division.conv step.job ≡ 0 =
-            rw (lt-ltb step.job.source s.division.conv low) refl in
+        rw (lt-ltb step.job.source s.division.conv low) refl in
         let n : jobs_needed s ≡ 1 = needed ∙ rw ok refl in
         omega (arith, n, none)
     | inr ng ↦
@@ -59,16 +60,16 @@ module _ (first j c : ℕ) (a b : LoneRun) (is : IsAlone first j c a) (step : St
       let now = is_now j c b false false (Some step.job) step.same_ready step.same_flush step.is in
       let none_now = now_none a.commit s step.no_limbo in
       let same : jobs_behind b.stock.division.conv step.job ≡ jobs_behind s.division.conv step.job =
-          ap (λ (n : ℕ). jobs_behind n step.job) step.conv in
+      ap (λ (n : ℕ). jobs_behind n step.job) step.conv in
       let jobs = mul-le-mul_left j one_less in
       let commits = mul-le-mul_left c one_less in
       let rest : jobs_needed s + commits_now a.commit s ≡ jobs_needed s = omega (arith, none_now) in
       let here : calls_to_come j c a ≡ a.commit + 0 + j * jobs_needed s + c * jobs_needed s + 1 =
-          before.calls ∙ ap (λ (n : ℕ). a.commit + 0 + j * jobs_needed s + c * n + 1) rest in
+      before.calls ∙ ap (λ (n : ℕ). a.commit + 0 + j * jobs_needed s + c * n + 1) rest in
       let there : calls_to_come j c b
-          ≡ b.commit + step.job.calls + j * jobs_behind s.division.conv step.job
-          + c * (jobs_behind s.division.conv step.job + 1) + 1 =
-          now.calls ∙ ap (λ (n : ℕ). b.commit + step.job.calls + j * n + c * (n + 1) + 1) same in
+      ≡ b.commit + step.job.calls + j * jobs_behind s.division.conv step.job
+      + c * (jobs_behind s.division.conv step.job + 1) + 1 =
+      now.calls ∙ ap (λ (n : ℕ). b.commit + step.job.calls + j * n + c * (n + 1) + 1) same in
       record {
         jobs = omega (arith, before.jobs, now.jobs, step.jobs, one_less, same);
         commits = omega (arith, before.commits, now.commits, step.commits, one_less, same, none_now);
@@ -81,7 +82,7 @@ module _ (first j c : ℕ) (a b : LoneRun) (is : IsAlone first j c a) (step : St
           step.calls,
           jobs,
           commits,
-          times_more j (jobs_behind s.division.conv step.job)
+          times_more j (jobs_behind s.division.conv step.job),
         );
       }
 
@@ -90,7 +91,7 @@ module _ (first j c : ℕ) (a b : LoneRun) (is : IsAlone first j c a) (step : St
   begin_beside w e =
       let same : step.job ≡ w = (let f : Some step.job ≡ Some w = sym step.is ∙ e in cc) in
       let leaves = leaves_on first s (is.stocked step.no_job) none_free none_in_limbo step.job.chunk
-          step.job.source step.job.result step.inside step.picked in
+      step.job.source step.job.result step.inside step.picked in
       subst (λ (x : JobAhead). IsBeside x b) same (record {
         not_ready = step.same_ready;
         no_flush = step.same_flush;
@@ -106,13 +107,13 @@ module _ (first j c : ℕ) (a b : LoneRun) (is : IsAlone first j c a) (step : Co
       let beside = is.beside step.job step.was in
       let before = is_now j c a false false (Some step.job) beside.not_ready beside.no_flush step.was in
       let now = is_now j c b false false (Some (record step.job { calls = step.left }))
-          (step.same_ready ∙ beside.not_ready) (step.same_flush ∙ beside.no_flush) step.is in
+      (step.same_ready ∙ beside.not_ready) (step.same_flush ∙ beside.no_flush) step.is in
       let same : jobs_behind b.stock.division.conv step.job ≡ jobs_behind a.stock.division.conv step.job =
-          ap (λ (s : Stock). jobs_behind s.division.conv step.job) step.stock in
+      ap (λ (s : Stock). jobs_behind s.division.conv step.job) step.stock in
       let there : calls_to_come j c b
-          ≡ b.commit + step.left + j * jobs_behind a.stock.division.conv step.job
-          + c * (jobs_behind a.stock.division.conv step.job + 1) + 1 =
-          now.calls ∙ ap (λ (n : ℕ). b.commit + step.left + j * n + c * (n + 1) + 1) same in
+      ≡ b.commit + step.left + j * jobs_behind a.stock.division.conv step.job
+      + c * (jobs_behind a.stock.division.conv step.job + 1) + 1 =
+      now.calls ∙ ap (λ (n : ℕ). b.commit + step.left + j * n + c * (n + 1) + 1) same in
       record {
         jobs = omega (arith, before.jobs, now.jobs, step.jobs, same);
         commits = omega (arith, before.commits, now.commits, step.commits, same);
@@ -123,7 +124,7 @@ module _ (first j c : ℕ) (a b : LoneRun) (is : IsAlone first j c a) (step : Co
   copy_beside w e =
       let beside = is.beside step.job step.was in
       let same : record step.job { calls = step.left } ≡ w = (
-          let f : Some (record step.job { calls = step.left }) ≡ Some w = sym step.is ∙ e in cc
+      let f : Some (record step.job { calls = step.left }) ≡ Some w = sym step.is ∙ e in cc
       ) in
       subst (λ (x : JobAhead). IsBeside x b) same (record {
         not_ready = step.same_ready ∙ beside.not_ready;

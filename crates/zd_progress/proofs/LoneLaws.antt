@@ -1,5 +1,6 @@
 -- A run that is alone stays so, and no more is to come before its next piece is entered.
-use Rattle.std.proofs.Common.{◌≡◌, inl, inr, ℕ, ◌+◌, ◌≤◌, true, false, Some, None, refl, sym, ap, ◌∙◌, true≢false, arith}
+use Rattle.std.proofs.Common.{◌≡◌, inl, inr, ℕ, ◌+◌, ◌≤◌, true, false, Some, None, refl, sym, ap, ◌∙◌, true≢false}
+use Rattle.std.proofs.Common.{arith}
 use Rattle.std.proofs.lemmas.Bool.{cases_eq, cases_Bool, eq-eqb, ne_eqb}
 use Rattle.zd_progress.specs.LoneRuns.{IsAlone, IsBeside, IsSound, JobAhead, LoneRun, calls_to_come, commit_calls}
 use Rattle.zd_progress.specs.LoneRuns.{commits_by, commits_to_come, job_calls, jobs_to_come, most_calls}
@@ -49,7 +50,7 @@ module _ (first j c : ℕ) (a b : LoneRun) (is : IsAlone first j c a) where
     few_calls = (
         let e : job_calls b.job ≡ s.job.calls = ap job_calls s.is in
         omega (arith, e, s.calls, s.later)
-    );
+        );
     commit = omega (arith, s.same_commit);
     dirty = sound.dirty;
   }
@@ -61,7 +62,7 @@ module _ (first j c : ℕ) (a b : LoneRun) (is : IsAlone first j c a) where
         let e : job_calls b.job ≡ s.left = ap job_calls s.is in
         let f : job_calls a.job ≡ s.job.calls = ap job_calls s.was in
         omega (arith, e, f, s.calls, s.later, is.few_calls)
-    );
+        );
     commit = omega (arith, s.same_commit, is.commit);
     dirty = sound.dirty;
   }

@@ -1,6 +1,8 @@
 -- Chunks on conventional zones, and jobs that leave one there.
-use Rattle.std.proofs.Common.{◌≡◌, ◌≢◌, ◌⊎◌, inl, inr, ℕ, suc, ◌+◌, ◌<◌, ◌≤◌, Bool, true, cond, List, [], ◌∷◌, length, get_or}
-use Rattle.std.proofs.Common.{set, Option, Some, None, refl, sym, ap, ◌∙◌, arith, get_or-set_same, get_or-set_other, length-set}
+use Rattle.std.proofs.Common.{◌≡◌, ◌≢◌, ◌⊎◌, inl, inr, ℕ, suc, ◌+◌, ◌<◌, ◌≤◌, Bool, true, cond, List, [], ◌∷◌, length}
+use Rattle.std.proofs.Common.{get_or}
+use Rattle.std.proofs.Common.{set, Option, Some, None, refl, sym, ap, ◌∙◌, arith, get_or-set_same, get_or-set_other}
+use Rattle.std.proofs.Common.{length-set}
 use Rattle.std.proofs.lemmas.Bool.{false≢true, cases_Bool, lt-ltb, ltb-true}
 use Rattle.std.proofs.lemmas.List.Sums.{get_or-le-sum_by, sum_by-cons}
 use Rattle.zd_alloc.specs.Zones.{is_free, is_limbo, use_at}
@@ -41,7 +43,7 @@ found conv (e ∷ es) some = elim (cases_Bool (is_below conv e.zone)) [
   | inl here ↦ (0, omega arith, here)
   | inr off ↦
       let all : on_count conv (e ∷ es) ≡ one (is_below conv e.zone) + on_count conv es =
-          sum_by-cons (λ (x : MapEntry). one (is_below conv x.zone)) e es in
+      sum_by-cons (λ (x : MapEntry). one (is_below conv x.zone)) e es in
       let none : one (is_below conv e.zone) ≡ 0 = ap one off in
       let rest = found conv es (omega (arith, some, all, none)) in
       (suc rest.0, omega (arith, rest.1), rest.2)
@@ -109,12 +111,12 @@ module _ (first : ℕ) (s : Stock) (is : IsStocked first s) (free : free_of Conv
   leaves_on chunk source result inside (empties no_move no_buffer zone) high =
       let on = first_on no_buffer in
       let other : on.chunk ≢ chunk = (λ e.
-          let same : on.zone ≡ source = (
-              let f : Some on.zone ≡ Some source =
-                  sym on.is ∙ ap (λ (x : ℕ). (entry_in_map s.entries x).zone) e ∙ zone in
-              cc
-          ) in
-          omega (arith, same, high, on.low)) in
+      let same : on.zone ≡ source = (
+      let f : Some on.zone ≡ Some source =
+      sym on.is ∙ ap (λ (x : ℕ). (entry_in_map s.entries x).zone) e ∙ zone in
+      cc
+      ) in
+      omega (arith, same, high, on.low)) in
       on_counts s.division.conv (set s.entries chunk result) (record {
         chunk = on.chunk;
         zone = on.zone;

@@ -1,5 +1,6 @@
 -- Steps keep a run on time.
-use Rattle.std.proofs.Common.{◌≡◌, ◌⊎◌, inl, inr, ℕ, suc, ◌+◌, ◌-◌, ◌*◌, ◌^◌, ◌<◌, ◌≤◌, true, false, true≢false, List, length}
+use Rattle.std.proofs.Common.{◌≡◌, ◌⊎◌, inl, inr, ℕ, suc, ◌+◌, ◌-◌, ◌*◌, ◌^◌, ◌<◌, ◌≤◌, true, false, true≢false, List}
+use Rattle.std.proofs.Common.{length}
 use Rattle.std.proofs.Common.{None, subst, refl, sym, ap, ◌∙◌, arith}
 use Rattle.std.proofs.lemmas.Bool.{cases_Bool}
 use Rattle.zd_progress.specs.LoneRuns.{IsAlone, IsBeside, IsSound, JobAhead, LoneRun, commits_by, commits_to_come}
@@ -66,7 +67,7 @@ module _ (first j c : ℕ) (a b : Pace) (some : 1 ≤ c) (is : IsPaced first j c
       let got = enter_in_time first j c a.run b.run is.alone last_at is.jobs_before is.commits_before s is.in_time in
       let t = begin_in_time first j c b.run some alone in
       let last : at_before b.ats (length b.ats) ≡ b.run.calls =
-          ap (λ (ats : List ℕ). at_before ats (length ats)) more ∙ last_of b.run.calls n a.ats in
+      ap (λ (ats : List ℕ). at_before ats (length ats)) more ∙ last_of b.run.calls n a.ats in
       let longer : length b.ats ≡ length a.ats + suc n = ap length more ∙ count_of b.run.calls (suc n) a.ats in
       record {
         alone = alone;
@@ -103,7 +104,7 @@ counted_on j opening pieces a b is (enters s n more left counts) = record {
   all = (
       let e : length b.ats ≡ length a.ats + suc n = ap length more ∙ count_of b.run.calls (suc n) a.ats in
       omega (arith, is.all, e, left)
-  );
+      );
   generation = omega (arith, is.generation, counts);
 }
 
@@ -144,7 +145,7 @@ never_last first j c opening pieces a is counted room at =
       counted.generation,
       at.left,
       at.last,
-      room
+      room,
     )
 
 -- and closing has room for one more

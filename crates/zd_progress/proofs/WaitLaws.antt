@@ -1,8 +1,8 @@
 -- Where nothing is ready for a lone actor and no commit is under way, a flush waits or a zone is wanted.
-use Rattle.std.proofs.Common.{◌≡◌, ◌⊎◌, inl, inr, ℕ, zero, suc, ◌<◌, ◌≤◌, Bool, true, false, cond, ◌&&◌, ◌||◌, not, eqb}
-use Rattle.std.proofs.Common.{List, [], ◌∷◌, length, get_or, find, slice_get, Option, Some, None, refl, sym, ap, ◌∙◌}
+use Rattle.std.proofs.Common.{◌≡◌, ◌⊎◌, inl, inr, ℕ, zero, suc, ◌≤◌, Bool, true, false, cond, ◌&&◌, ◌||◌, not, eqb}
+use Rattle.std.proofs.Common.{List, [], ◌∷◌, get_or, find, slice_get, Option, Some, None, refl, sym, ap, ◌∙◌}
 use Rattle.std.proofs.Common.{true≢false, arith}
-use Rattle.std.specs.List.{list_all, list_any}
+use Rattle.std.specs.List.{list_all}
 use Rattle.std.proofs.lemmas.Bool.{and_from, and_parts, cases_Bool, cases_lt, cond-false, cond-true, eq-eqb, eqb-true}
 use Rattle.std.proofs.lemmas.Bool.{false_from_ne_true, false≢true, not_from_false, or_left, or_right}
 use Rattle.std.proofs.lemmas.Option.{none-some, same_Some, slice_get-get_or, slice_get_within, get_or_from_slice_get}
@@ -11,11 +11,12 @@ use Rattle.zd_model.specs.Requests.{Operation, operation_of}
 use Rattle.zd_model.specs.Requests.Operation.{Reading, Writing, Discarding, Flushing}
 use Rattle.zd_model.specs.declared.requests.Piece.{Piece}
 use Rattle.zd_steps.specs.NextStep.{first_serve, piece_step}
-use Rattle.zd_steps.specs.Queues.{Callers, HasEntered, IsQueue, QueueState, first_of, head_of, run_of}
-use Rattle.zd_steps.specs.Runs.{Run, Standing, chunk_of, flies, flight_of, flushes, has_flush, is_discarding, is_eligible}
-use Rattle.zd_steps.specs.Runs.{is_eligible_flush, is_entered, is_flight_of, is_flight_on, is_flushing, is_held, is_over}
+use Rattle.zd_steps.specs.Queues.{Callers, HasEntered, IsQueue, QueueState, head_of, run_of}
+use Rattle.zd_steps.specs.Runs.{Run, Standing, chunk_of, flies, flight_of, flushes, has_flush, is_discarding}
+use Rattle.zd_steps.specs.Runs.{is_eligible}
+use Rattle.zd_steps.specs.Runs.{is_eligible_flush, is_entered, is_flight_of, is_flight_on, is_flushing, is_held}
+use Rattle.zd_steps.specs.Runs.{is_over}
 use Rattle.zd_steps.specs.Runs.{is_reading, is_ready, is_servable, is_wanted, is_writing, lacks_zone, wants_zone}
-use Rattle.zd_steps.specs.declared.step.Step.{Step}
 use Rattle.zd_steps.specs.declared.step.Step.TheVariants.{Serve}
 use Rattle.zd_steps.proofs.ChosenLaws.{flight_at}
 use Rattle.zd_steps.proofs.EligibleLaws.{first_eligible}
@@ -123,7 +124,7 @@ module _ (q : QueueState) (is : IsQueue q.chunk_blocks q.callers q.flights) (ent
     not_on p None k at on = false≢true on
     not_on p (Some x) k at on =
         let mine : slice_get q.flights actor ≡ Some (Some x) =
-            ap (slice_get q.flights) (sym (alone k x at)) ∙ at in
+        ap (slice_get q.flights) (sym (alone k x at)) ∙ at in
         none-some x (sym none ∙ get_or_from_slice_get q.flights actor (Some x) None mine)
 
     not_held : (p : Piece) → is_held r p ≡ false
@@ -145,10 +146,9 @@ module _ (q : QueueState) (is : IsQueue q.chunk_blocks q.callers q.flights) (ent
         ] in
         let p : Piece = get_or h.pieces (head_of h caller) nobody in
         let at : slice_get h.pieces (head_of h caller) ≡ Some p =
-            slice_get-get_or h.pieces (head_of h caller) nobody (omega (arith, head, inside)) in
+        slice_get-get_or h.pieces (head_of h caller) nobody (omega (arith, head, inside)) in
         let same : head_of h caller ≡ head_of h p.caller =
-            ap (head_of h) (sym (is.heads.own caller p at)) in
-        (
+        ap (head_of h) (sym (is.heads.own caller p at)) in (
           head_of h caller,
           p,
           at,
@@ -161,8 +161,8 @@ module _ (q : QueueState) (is : IsQueue q.chunk_blocks q.callers q.flights) (ent
         let some = eligible left in
         let p : Piece = some.1 in
         let off : is_ready v p ≡ false = false_from_ne_true (is_ready v p) (λ ready.
-            false≢true (sym (not_found (is_servable r v) h.pieces some.0 p unserved some.2)
-            ∙ and_from (is_eligible r p) (is_ready v p) some.3 ready)) in
+        false≢true (sym (not_found (is_servable r v) h.pieces some.0 p unserved some.2)
+        ∙ and_from (is_eligible r p) (is_ready v p) some.3 ready)) in
         elim (waits v p idle off) [
           | inl flush ↦ absurd (false≢true (sym no_flush
               ∙ in-any (is_eligible_flush r) p h.pieces (place-in p h.pieces some.0 some.2)

@@ -1,6 +1,6 @@
 -- What each kind of step makes of a run that is alone.
 use Rattle.std.specs.Prelude.{◌≡◌, ℕ, ◌+◌, ◌<◌, ◌≤◌, Bool, true, false, ◌==◌, if◌then◌else◌, length, map, set}
-use Rattle.std.specs.Prelude.{Option, Some, None}
+use Rattle.std.specs.Prelude.{Some, None}
 use Rattle.zd_base.specs.declared.geometry.Kind.TheVariants.{Conventional}
 use Rattle.zd_alloc.specs.Zones.{after_limbo, use_after_release}
 use Rattle.zd_progress.specs.LoneRuns.{JobAhead, LoneRun, calls_to_come, commit_calls, commits_to_come, jobs_to_come}

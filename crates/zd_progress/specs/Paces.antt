@@ -5,7 +5,8 @@ use Rattle.zd_base.specs.declared.numbers.Why.{Why}
 use Rattle.zd_base.specs.declared.numbers.Why.TheVariants.{Generation}
 use Rattle.zd_base.specs.declared.steps.Stepped.{Stepped}
 use Rattle.zd_base.specs.declared.steps.Stepped.TheVariants.{Did, Idle, Over, Stopped}
-use Rattle.zd_progress.specs.LoneRuns.{IsAlone, IsSound, LoneRun, calls_to_come, commits_to_come, jobs_to_come, most_calls}
+use Rattle.zd_progress.specs.LoneRuns.{IsAlone, IsSound, LoneRun, calls_to_come, commits_to_come, jobs_to_come}
+use Rattle.zd_progress.specs.LoneRuns.{most_calls}
 use Rattle.zd_progress.specs.LoneSteps.{EntersNow, FliesOn, IsCommitNeeded, LoneStep}
 use Rattle.zd_progress.specs.Measures.{IsRestWithin, Lessens, Rest}
 
