@@ -19,7 +19,7 @@ use Rattle.zd_steps.specs.declared.step.Step.{Step}
 use Rattle.zd_steps.specs.declared.step.Step.TheVariants.{Serve, Commit, Begin, Work}
 use Rattle.zd_steps.proofs.ChosenLaws.{next_goes}
 use Rattle.zd_progress.specs.Alone.{FliesAlone, HasOnlyJobs, IsSeenBy, TellsNext, others_in}
-use Rattle.zd_progress.specs.LoneRuns.{IsWaiting, JobAhead, LoneRun}
+use Rattle.zd_progress.specs.LoneRuns.{IsWaitingRun, JobAhead, LoneRun}
 use Rattle.zd_progress.specs.LoneSteps.{IsCommitNeeded}
 use Rattle.zd_progress.specs.LoneSteps.IsCommitNeeded.{flush, zone}
 use Rattle.zd_progress.specs.Stocks.{in_limbo}
@@ -84,7 +84,7 @@ module _ (q : QueueState) (is : IsQueue q.chunk_blocks q.callers q.flights) (ent
   idle_commit : l.commit ≡ 0 → v.commits ≡ false
   idle_commit idle = seen.commits ∙ le-ltb 0 l.commit (omega (arith, idle))
 
-  pub waiting : IsWaiting l
+  pub waiting : IsWaitingRun l
   waiting = record {
     some = λ not_ready idle no_flush. (
         let both = or_parts (is_over r) (is_some own) (sym seen.ready ∙ not_ready) in
