@@ -1,5 +1,6 @@
 -- Two whole runs of a session that has just begun.
-use Rattle.std.proofs.Common.{◌≡◌, ◌≢◌, inl, inr, ℕ, zero, suc, ◌+◌, ◌<◌, ◌≤◌, true, false, [], ◌∷◌, Some, None, refl, sym, ap}
+use Rattle.std.proofs.Common.{◌≡◌, ◌≢◌, inl, ℕ, zero, suc, ◌+◌, ◌<◌, ◌≤◌, true, false, [], ◌∷◌, Some, None, refl}
+use Rattle.std.proofs.Common.{sym}
 use Rattle.std.proofs.Common.{◌∙◌, true≢false, arith}
 use Rattle.zd_base.specs.declared.steps.Stepped.TheVariants.{Over}
 use Rattle.zd_alloc.specs.Zones.{use_at}
@@ -7,7 +8,7 @@ use Rattle.zd_alloc.specs.declared.uses.ZoneUse.{ZoneUse}
 use Rattle.zd_alloc.specs.declared.uses.ZoneUse.TheVariants.{Meta, Free, Held}
 use Rattle.zd_model.specs.Tables.{entry_in_map}
 use Rattle.zd_model.specs.declared.metadata.MapEntry.{MapEntry}
-use Rattle.zd_progress.specs.LoneRuns.{IsSound, IsWaiting, LoneRun}
+use Rattle.zd_progress.specs.LoneRuns.{IsSoundRun, IsWaitingRun, LoneRun}
 use Rattle.zd_progress.specs.LoneSteps.EntryCause.{flush, ready}
 use Rattle.zd_progress.specs.LoneSteps.LoneStep.{copies, finishes, starts}
 use Rattle.zd_progress.specs.Measures.Lessens.{ends, goes_on}
@@ -17,7 +18,7 @@ use Rattle.zd_progress.specs.Paces.PacesOn.{enters, steps}
 use Rattle.zd_progress.specs.Stocks.{IsNamedIn, IsStocked}
 use Rattle.zd_progress.specs.Stocks.IsPickedFor.{gives}
 use Rattle.zd_examples.specs.Loops.{flush_begun, flush_over, flush_run, lacking_run, move_ahead, move_begun, move_done}
-use Rattle.zd_examples.specs.Loops.{move_going, move_over, moved_run, moving_run, on_zone, stock_of, unmapped}
+use Rattle.zd_examples.specs.Loops.{move_going, move_over, moved_run, moving_run, mapped_to, stock_of, without_zone}
 
 -- each data zone that is held is named, and no chunk has a buffer
 module _ (third fourth fifth : ZoneUse) (e f : MapEntry) (flat_e : e.buffer ≡ None) (flat_f : f.buffer ≡ None)
@@ -66,14 +67,14 @@ held_data : Held ≢ Meta
 held_data e = cc
 
 -- a run in which something is ready, and one in which a zone is wanted
-ready_waits : (r : LoneRun) → r.is_ready ≡ true → r.is_wanted ≡ false → IsWaiting r
+ready_waits : (r : LoneRun) → r.is_ready ≡ true → r.is_wanted ≡ false → IsWaitingRun r
 ready_waits r is unwanted = record {
   some = λ off. absurd (true≢false (sym is ∙ off));
   none_free = λ wanted. absurd (true≢false (sym wanted ∙ unwanted));
 }
 
 flush_stocked : IsStocked 2 flush_run.stock
-flush_stocked = stocked Free Free Free unmapped unmapped refl refl free_data free_data free_data
+flush_stocked = stocked Free Free Free without_zone without_zone refl refl free_data free_data free_data
     (λ e. absurd (free_not_held e)) (λ e. absurd (free_not_held e)) (λ e. absurd (free_not_held e))
 
 pub flush_fresh : IsFreshLoop flush_begun
@@ -140,23 +141,23 @@ flush_whole = record {
 }
 
 -- a chunk of these two entries has the zone
-names_first : (z : ℕ) (f : MapEntry) → IsNamedIn (on_zone z ∷ f ∷ []) z
+names_first : (z : ℕ) (f : MapEntry) → IsNamedIn (mapped_to z ∷ f ∷ []) z
 names_first z f = record { chunk = 0; inside = omega arith; names = inl refl }
 
-names_second : (z : ℕ) (e : MapEntry) → IsNamedIn (e ∷ on_zone z ∷ []) z
+names_second : (z : ℕ) (e : MapEntry) → IsNamedIn (e ∷ mapped_to z ∷ []) z
 names_second z e = record { chunk = 1; inside = omega arith; names = inl refl }
 
 lacking_stocked : IsStocked 2 lacking_run.stock
-lacking_stocked = stocked Held Free Free (on_zone 2) unmapped refl refl held_data free_data free_data
-    (λ e. names_first 2 unmapped) (λ e. absurd (free_not_held e)) (λ e. absurd (free_not_held e))
+lacking_stocked = stocked Held Free Free (mapped_to 2) without_zone refl refl held_data free_data free_data
+    (λ e. names_first 2 without_zone) (λ e. absurd (free_not_held e)) (λ e. absurd (free_not_held e))
 
 moved_stocked : IsStocked 2 moved_run.stock
-moved_stocked = stocked Free Held Free (on_zone 3) unmapped refl refl free_data held_data free_data
-    (λ e. absurd (free_not_held e)) (λ e. names_first 3 unmapped) (λ e. absurd (free_not_held e))
+moved_stocked = stocked Free Held Free (mapped_to 3) without_zone refl refl free_data held_data free_data
+    (λ e. absurd (free_not_held e)) (λ e. names_first 3 without_zone) (λ e. absurd (free_not_held e))
 
 over_stocked : IsStocked 2 move_over.pace.run.stock
-over_stocked = stocked Held Held Free (on_zone 3) (on_zone 2) refl refl held_data held_data free_data
-    (λ e. names_second 2 (on_zone 3)) (λ e. names_first 3 (on_zone 2)) (λ e. absurd (free_not_held e))
+over_stocked = stocked Held Held Free (mapped_to 3) (mapped_to 2) refl refl held_data held_data free_data
+    (λ e. names_second 2 (mapped_to 3)) (λ e. names_first 3 (mapped_to 2)) (λ e. absurd (free_not_held e))
 
 pub move_fresh : IsFreshLoop move_begun
 move_fresh = record {
@@ -181,7 +182,7 @@ move_fresh = record {
 }
 
 -- beside a job a zone is wanted, and none is free
-moving_sound : (left calls : ℕ) → IsSound 2 18 (moving_run left calls)
+moving_sound : (left calls : ℕ) → IsSoundRun 2 18 (moving_run left calls)
 moving_sound left calls = record {
   waiting = record { some = λ off idle none. refl; none_free = λ wanted. refl };
   stocked = λ none. absurd (let g : ⊥ = cc in g);

@@ -9,11 +9,11 @@ use Rattle.zd_progress.specs.Measures.{Rest}
 use Rattle.zd_progress.specs.Paces.{LoopState}
 use Rattle.zd_progress.specs.Stocks.{Stock}
 
-abbrev pub unmapped : MapEntry
-unmapped = record { zone = None; buffer = None }
+abbrev pub without_zone : MapEntry
+without_zone = record { zone = None; buffer = None }
 
-abbrev pub on_zone : ℕ → MapEntry
-on_zone zone = record { zone = Some zone; buffer = None }
+abbrev pub mapped_to : ℕ → MapEntry
+mapped_to zone = record { zone = Some zone; buffer = None }
 
 -- the data zones are used so, and the chunks have these entries
 abbrev pub stock_of : ZoneUse → ZoneUse → ZoneUse → List MapEntry → Stock
@@ -53,7 +53,7 @@ entered_at at s run = record s {
 -- A FLUSH WAITS, and nothing is dirty
 abbrev pub flush_run : LoneRun
 flush_run = record {
-  stock = stock_of Free Free Free (unmapped ∷ unmapped ∷ []);
+  stock = stock_of Free Free Free (without_zone ∷ without_zone ∷ []);
   job = None;
   commit = 0;
   dirty = 0;
@@ -76,18 +76,18 @@ flush_over = entered_at 1 flush_begun
 -- read and written
 abbrev pub lacking_run : LoneRun
 lacking_run = record flush_run {
-  stock = stock_of Held Free Free (on_zone 2 ∷ unmapped ∷ []);
+  stock = stock_of Held Free Free (mapped_to 2 ∷ without_zone ∷ []);
   flush_waits = false;
   is_wanted = true;
 }
 
 -- a move that may still make so many calls
 abbrev pub move_ahead : ℕ → JobAhead
-move_ahead calls = record { chunk = 0; source = 2; result = on_zone 3; calls = calls }
+move_ahead calls = record { chunk = 0; source = 2; result = mapped_to 3; calls = calls }
 
 abbrev pub moving_run : ℕ → ℕ → LoneRun
 moving_run left calls = record lacking_run {
-  stock = stock_of Held Held Free (on_zone 2 ∷ unmapped ∷ []);
+  stock = stock_of Held Held Free (mapped_to 2 ∷ without_zone ∷ []);
   job = Some (move_ahead left);
   jobs = 1;
   calls = calls;
@@ -95,7 +95,7 @@ moving_run left calls = record lacking_run {
 
 abbrev pub moved_run : LoneRun
 moved_run = record lacking_run {
-  stock = stock_of Free Held Free (on_zone 3 ∷ unmapped ∷ []);
+  stock = stock_of Free Held Free (mapped_to 3 ∷ without_zone ∷ []);
   dirty = 1;
   is_ready = true;
   is_wanted = false;
@@ -121,6 +121,6 @@ move_done = record move_begun {
 
 abbrev pub move_over : LoopState
 move_over = entered_at 2 move_done (record moved_run {
-  stock = stock_of Held Held Free (on_zone 3 ∷ on_zone 2 ∷ []);
+  stock = stock_of Held Held Free (mapped_to 3 ∷ mapped_to 2 ∷ []);
   calls = 2;
 })

@@ -14,8 +14,8 @@ use Rattle.zd_steps.specs.Runs.{Run, Standing}
 use Rattle.zd_examples.specs.Requests.{request_by}
 
 -- the only piece of a request, by its number
-abbrev pub piece_of : ℕ → ℕ → What → Piece
-piece_of caller request what =
+abbrev pub only_piece : ℕ → ℕ → What → Piece
+only_piece caller request what =
     record { caller = caller; request = request; piece = 0; what = what; range = false }
 
 -- the first pieces of a plan are entered, so many, and the actors have these in flight
@@ -30,8 +30,8 @@ run_at plan entered flights =
     }
 
 -- a write needs a zone where its chunk is one of those from c on
-abbrev pub is_from : ℕ → Piece → Bool
-is_from c p = nat_le c (first_block p.what / 16)
+abbrev pub is_chunk_from : ℕ → Piece → Bool
+is_chunk_from c p = nat_le c (first_block p.what / 16)
 
 -- so many conventional zones are free, chunks from c on have none, and the next step of a job is this
 abbrev pub working : Option StepKind → ℕ → ℕ → Standing
@@ -44,7 +44,7 @@ working job free c = record {
   limbo = 0;
   data_zones = 4;
   has_limbo = false;
-  needs_zone = is_from c;
+  needs_zone = is_chunk_from c;
   merges = λ p. false;
 }
 
@@ -91,11 +91,12 @@ abbrev pub part_write : What
 part_write = WriteSectors 7 2 5
 
 abbrev pub part_plan : List Request
-part_plan = request_by 0 part_write ∷ request_by 1 (ReadSectors 0 8) ∷ request_by 2 Flush ∷ request_by 3 (Discard 16 1) ∷ []
+part_plan =
+    request_by 0 part_write ∷ request_by 1 (ReadSectors 0 8) ∷ request_by 2 Flush ∷ request_by 3 (Discard 16 1) ∷ []
 
 -- in flight with actor 0
 abbrev pub part_flight : List (Option Piece)
-part_flight = Some (piece_of 0 1 part_write) ∷ None ∷ []
+part_flight = Some (only_piece 0 1 part_write) ∷ None ∷ []
 
 -- it has an edge to be read
 abbrev pub merging : Standing → Standing

@@ -1,8 +1,8 @@
 -- What the next step of an actor that flies alone and prefers pieces tells of its run.
-use Rattle.std.proofs.Common.{◌≡◌, ◌⊎◌, inl, inr, ℕ, zero, suc, ◌+◌, ◌<◌, Bool, true, false, cond, ◌&&◌, ◌||◌, not, nat_lt}
-use Rattle.std.proofs.Common.{List, [], ◌∷◌, drop, find, count_by, slice_get, Option, Some, None, is_some, is_none, subst, refl}
+use Rattle.std.proofs.Common.{◌≡◌, inl, inr, ℕ, zero, suc, Bool, true, false, cond, ◌&&◌, ◌||◌, not}
+use Rattle.std.proofs.Common.{List, [], ◌∷◌, find, count_by, slice_get, Option, Some, None, is_some, subst, refl}
 use Rattle.std.proofs.Common.{sym, ap, ◌∙◌, true≢false, arith}
-use Rattle.std.proofs.lemmas.Bool.{and_parts, cases_Bool, cases_lt, cond-false, cond-true, false≢true, le-ltb, lt-ltb}
+use Rattle.std.proofs.lemmas.Bool.{and_parts, cases_Bool, cond-false, cond-true, false≢true, le-ltb}
 use Rattle.std.proofs.lemmas.Bool.{ltb-false, ltb-true, or_cases, or_from, or_parts}
 use Rattle.std.proofs.lemmas.List.Sums.{sum_by-cons}
 use Rattle.std.proofs.lemmas.Option.{none-some, same_Some}
@@ -19,11 +19,10 @@ use Rattle.zd_steps.specs.declared.step.Step.{Step}
 use Rattle.zd_steps.specs.declared.step.Step.TheVariants.{Serve, Commit, Begin, Work}
 use Rattle.zd_steps.proofs.ChosenLaws.{next_goes}
 use Rattle.zd_progress.specs.Alone.{FliesAlone, HasOnlyJobs, IsSeenBy, TellsNext, others_in}
-use Rattle.zd_progress.specs.LoneRuns.{IsWaiting, JobAhead, LoneRun}
+use Rattle.zd_progress.specs.LoneRuns.{IsWaitingRun, JobAhead, LoneRun}
 use Rattle.zd_progress.specs.LoneSteps.{IsCommitNeeded}
 use Rattle.zd_progress.specs.LoneSteps.IsCommitNeeded.{flush, zone}
 use Rattle.zd_progress.specs.Stocks.{in_limbo}
-use Rattle.zd_progress.proofs.OnConventional.{cases_option}
 use Rattle.zd_progress.proofs.WaitLaws.{none_free, wanted}
 
 -- none but the first actor
@@ -85,7 +84,7 @@ module _ (q : QueueState) (is : IsQueue q.chunk_blocks q.callers q.flights) (ent
   idle_commit : l.commit ≡ 0 → v.commits ≡ false
   idle_commit idle = seen.commits ∙ le-ltb 0 l.commit (omega (arith, idle))
 
-  pub waiting : IsWaiting l
+  pub waiting : IsWaitingRun l
   waiting = record {
     some = λ not_ready idle no_flush. (
         let both = or_parts (is_over r) (is_some own) (sym seen.ready ∙ not_ready) in
@@ -143,14 +142,19 @@ module _ (q : QueueState) (is : IsQueue q.chunk_blocks q.callers q.flights) (ent
       → TellsNext l v (job_step r v job)
   by_job None same is_job only =
       let none = no_job l.job (sym same) in
+      let no_limbo : v.has_limbo ≡ false =
+      seen.limbo ∙ le-ltb 0 (in_limbo l.stock) (let e = only.no_limbo in omega (arith, e)) in
       let picks = may_begin (is_wanted r v) v.has_limbo v.commits (is_low v) v.picks
       (sym seen.wanted ∙ only.wanted) (seen.limbo ∙ le-ltb 0 (in_limbo l.stock) (let e = only.no_limbo in omega (arith, e)))
       (idle_commit only.no_commit) in
+      (sym seen.wanted ∙ only.wanted) no_limbo (idle_commit only.no_commit) in
       let is_due : is_job_due v (is_wanted r v) ≡ v.picks = rw is_job picks in
       elim (cases_Bool v.picks) [
-        | inl ok ↦ subst (TellsNext l v) (sym (cond-true (is_job_due v (is_wanted r v)) (Some Begin) None (is_due ∙ ok)))
+        | inl ok ↦ subst (TellsNext l v)
+            (sym (cond-true (is_job_due v (is_wanted r v)) (Some Begin) None (is_due ∙ ok)))
             (only, none, ok)
-        | inr ng ↦ subst (TellsNext l v) (sym (cond-false (is_job_due v (is_wanted r v)) (Some Begin) None (is_due ∙ ng)))
+        | inr ng ↦ subst (TellsNext l v)
+            (sym (cond-false (is_job_due v (is_wanted r v)) (Some Begin) None (is_due ∙ ng)))
             (only, none, ng)
       ]
   by_job (Some kind) same is_job only =
@@ -193,5 +197,6 @@ module _ (q : QueueState) (is : IsQueue q.chunk_blocks q.callers q.flights) (ent
 
   pub tells : v.stopped ≡ false → is_over r ≡ false → TellsNext l v (next_step r v actor Pieces)
   tells runs left = subst (TellsNext l v)
-      (sym (next_goes r v actor Pieces (or_else r v own (or_else r v (commit_step r v) (job_step r v v.job))) runs left refl))
+      (sym (next_goes r v actor Pieces (or_else r v own (or_else r v (commit_step r v) (job_step r v v.job)))
+      runs left refl))
       (by_piece own refl (λ s e. serves_piece (flight_of r actor) s e) left)

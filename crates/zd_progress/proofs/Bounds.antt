@@ -2,8 +2,9 @@
 use Rattle.std.proofs.Common.{◌≡◌, inl, inr, ℕ, ◌+◌, ◌*◌, ◌≤◌, Bool, true, false, cond, Option, Some, None, refl, arith}
 use Rattle.std.proofs.Math.Nat.{mul-le-mul_left}
 use Rattle.std.proofs.lemmas.Bool.{cases_eq, cases_lt, eq-eqb, ne_eqb}
-use Rattle.zd_progress.specs.LoneRuns.{JobAhead, LoneRun, IsAlone, calls_by, calls_to_come, commit_calls, commits_by}
-use Rattle.zd_progress.specs.LoneRuns.{commits_now, commits_to_come, job_calls, jobs_behind, jobs_by, jobs_needed}
+use Rattle.zd_progress.specs.LoneRuns.{JobAhead, LoneRun, IsAlone, calls_ahead, calls_to_come, calls_of_commit}
+use Rattle.zd_progress.specs.LoneRuns.{commits_ahead}
+use Rattle.zd_progress.specs.LoneRuns.{commits_now, commits_to_come, job_calls, jobs_behind, jobs_ahead, jobs_needed}
 use Rattle.zd_progress.specs.LoneRuns.{jobs_to_come, most_calls}
 use Rattle.zd_progress.specs.Stocks.{Stock}
 
@@ -58,9 +59,9 @@ pub record AreFew (j c : ℕ) (r : LoneRun) : Type 0 where
 
 module _ (j c : ℕ) (s : Stock) (some : 1 ≤ c) where
   record AreBounded (ready flush : Bool) (job : Option JobAhead) (k : ℕ) : Type 0 where
-    jobs : jobs_by ready flush job s ≤ 2
-    commits : commits_by ready flush job k s ≤ 3
-    calls : calls_by j c ready flush job k s ≤ 2 * j + 3 * c + 1
+    jobs : jobs_ahead ready flush job s ≤ 2
+    commits : commits_ahead ready flush job k s ≤ 3
+    calls : calls_ahead j c ready flush job k s ≤ 2 * j + 3 * c + 1
 
   bounded : (ready flush : Bool) (job : Option JobAhead) (k : ℕ) → k ≤ c → job_calls job ≤ j
       → ((w : JobAhead) → job ≡ Some w → (flush ≡ false) × (k ≡ 0)) → AreBounded ready flush job k
@@ -99,7 +100,7 @@ are_few first j c r some is =
     record { jobs = all.jobs; commits = all.commits; calls = all.calls }
 
 -- a commit makes no more calls than T3.3 counts: d dirty blocks are among the used ones behind the super block
-pub commit_few : (d used : ℕ) → d + 1 ≤ used → commit_calls d ≤ 2 * used + 4
+pub commit_few : (d used : ℕ) → d + 1 ≤ used → calls_of_commit d ≤ 2 * used + 4
 commit_few d used few = elim (cases_eq d 0) [
   | inl e ↦ rw (eq-eqb d 0 e) (omega arith)
   | inr ne ↦ rw (ne_eqb d 0 ne) (omega (arith, few))

@@ -4,9 +4,10 @@ use Rattle.std.proofs.Common.{List, Option, None, refl, ap, ap₂, ◌∙◌, ar
 use Rattle.std.proofs.lemmas.Bool.{cases_eq, cases_lt, lt-ltb, le-ltb, eq-eqb, ne_eqb}
 use Rattle.zd_base.specs.declared.geometry.Kind.TheVariants.{Conventional, Sequential}
 use Rattle.zd_model.specs.declared.metadata.MapEntry.{MapEntry}
-use Rattle.zd_progress.specs.LoneRuns.{JobAhead, LoneRun, IsAlone, calls_by, calls_to_come, commit_calls, commits_by}
-use Rattle.zd_progress.specs.LoneRuns.{commits_now, commits_to_come, jobs_by, jobs_needed, jobs_to_come}
-use Rattle.zd_progress.specs.LoneSteps.{CommitsOn, IsCommitNeeded, Spends}
+use Rattle.zd_progress.specs.LoneRuns.{JobAhead, LoneRun, IsAlone, calls_ahead, calls_to_come, calls_of_commit}
+use Rattle.zd_progress.specs.LoneRuns.{commits_ahead}
+use Rattle.zd_progress.specs.LoneRuns.{commits_now, commits_to_come, jobs_ahead, jobs_needed, jobs_to_come}
+use Rattle.zd_progress.specs.LoneSteps.{CommitsOn, IsCommitNeeded, SpendsNoMore}
 use Rattle.zd_progress.specs.LoneSteps.IsCommitNeeded.{flush, zone}
 use Rattle.zd_progress.specs.Stocks.{Stock, free_of, in_limbo, limbo_of, on_count}
 use Rattle.zd_progress.proofs.Bounds.{times_more}
@@ -56,16 +57,17 @@ abbrev begun : ℕ → ℕ
 begun k = cond (nat_eq k 0) 1 0
 
 -- from k calls that are to come, over s, to l, over t
-module _ (j c d k l : ℕ) (s t : Stock) (few : commit_calls d ≤ c)
-    (left : l + 1 ≡ cond (nat_eq k 0) (commit_calls d) k) (under : 0 < l → t ≡ s) (at_end : l ≡ 0 → t ≡ after s) where
+module _ (j c d k l : ℕ) (s t : Stock) (few : calls_of_commit d ≤ c)
+    (left : l + 1 ≡ cond (nat_eq k 0) (calls_of_commit d) k) (under : 0 < l → t ≡ s)
+    (at_end : l ≡ 0 → t ≡ after s) where
   record IsSpent (ready waits : Bool) : Type 0 where
-    jobs : jobs_by ready waits None t ≤ jobs_by false waits None s
-    commits : begun k + commits_by ready waits None l t ≤ commits_by false waits None k s
-    calls : 1 + calls_by j c ready waits None l t ≤ calls_by j c false waits None k s
+    jobs : jobs_ahead ready waits None t ≤ jobs_ahead false waits None s
+    commits : begun k + commits_ahead ready waits None l t ≤ commits_ahead false waits None k s
+    calls : 1 + calls_ahead j c ready waits None l t ≤ calls_ahead j c false waits None k s
 
   first_call : k ≡ 0 → (l + 1 ≤ c) × (begun k ≡ 1)
   first_call e = (
-    (let n : l + 1 ≡ commit_calls d = left ∙ rw (eq-eqb k 0 e) refl in omega (arith, n, few)),
+    (let n : l + 1 ≡ calls_of_commit d = left ∙ rw (eq-eqb k 0 e) refl in omega (arith, n, few)),
     rw (eq-eqb k 0 e) refl,
   )
 
@@ -147,9 +149,9 @@ module _ (j c d k l : ℕ) (s t : Stock) (few : commit_calls d ≤ c)
 
 -- what a run has before it, by what is ready, what waits and what is under way
 pub record IsNow (j c : ℕ) (r : LoneRun) (ready waits : Bool) (job : Option JobAhead) : Type 0 where
-  pub jobs : jobs_to_come r ≡ jobs_by ready waits job r.stock
-  pub commits : commits_to_come r ≡ commits_by ready waits job r.commit r.stock
-  pub calls : calls_to_come j c r ≡ calls_by j c ready waits job r.commit r.stock
+  pub jobs : jobs_to_come r ≡ jobs_ahead ready waits job r.stock
+  pub commits : commits_to_come r ≡ commits_ahead ready waits job r.commit r.stock
+  pub calls : calls_to_come j c r ≡ calls_ahead j c ready waits job r.commit r.stock
 
 pub is_now : (j c : ℕ) (r : LoneRun) (ready waits : Bool) (job : Option JobAhead) → r.is_ready ≡ ready
     → r.flush_waits ≡ waits → r.job ≡ job → IsNow j c r ready waits job
@@ -163,7 +165,7 @@ waits_or_limbo : (r : LoneRun) → IsCommitNeeded r → (r.flush_waits ≡ true)
 waits_or_limbo r (flush waits) = inl waits
 waits_or_limbo r (zone wanted some) = inr some
 
-pub commit_spends : (first j c : ℕ) (a b : LoneRun) → IsAlone first j c a → CommitsOn a b → Spends j c a b
+pub commit_spends : (first j c : ℕ) (a b : LoneRun) → IsAlone first j c a → CommitsOn a b → SpendsNoMore j c a b
 commit_spends first j c a b is step =
     let all = spent j c a.dirty a.commit b.commit a.stock b.stock is.dirty step.left step.under_way step.ended
     b.is_ready a.flush_waits (λ idle. waits_or_limbo a (step.due idle)) step.goes_on in

@@ -1,5 +1,6 @@
 -- A job ends: no more is to come than before, since what it gave back is free or in limbo.
-use Rattle.std.proofs.Common.{◌≡◌, inl, inr, ℕ, ◌+◌, ◌*◌, ◌<◌, ◌≤◌, Bool, true, false, cond, ◌&&◌, nat_lt, length, Some, None}
+use Rattle.std.proofs.Common.{◌≡◌, inl, inr, ℕ, ◌+◌, ◌*◌, ◌<◌, ◌≤◌, Bool, true, false, cond, ◌&&◌, nat_lt, length, Some}
+use Rattle.std.proofs.Common.{None}
 use Rattle.std.proofs.Common.{subst, refl, sym, ap, ◌∙◌, arith, get_or-set_same, length-set}
 use Rattle.std.proofs.Math.Nat.{mul-le-mul_left}
 use Rattle.std.proofs.lemmas.Bool.{cases_lt, lt-ltb, le-ltb}
@@ -7,9 +8,10 @@ use Rattle.zd_base.specs.declared.geometry.Kind.{Kind}
 use Rattle.zd_base.specs.declared.geometry.Kind.TheVariants.{Conventional, Sequential}
 use Rattle.zd_alloc.specs.Zones.{use_at, use_after_release, IsOf}
 use Rattle.zd_alloc.specs.declared.uses.ZoneUse.TheVariants.{Meta}
-use Rattle.zd_progress.specs.LoneRuns.{IsAlone, LoneRun, calls_by, commits_by, commits_now, jobs_behind, jobs_by}
+use Rattle.zd_progress.specs.LoneRuns.{IsAlone, LoneRun, calls_ahead, commits_ahead, commits_now, jobs_behind}
+use Rattle.zd_progress.specs.LoneRuns.{jobs_ahead}
 use Rattle.zd_progress.specs.LoneRuns.{jobs_needed}
-use Rattle.zd_progress.specs.LoneSteps.{FinishesJob, Spends}
+use Rattle.zd_progress.specs.LoneSteps.{FinishesJob, SpendsNoMore}
 use Rattle.zd_progress.specs.Stocks.{Stock, free_of, limbo_of, on_count}
 use Rattle.zd_progress.proofs.Bounds.{few_now}
 use Rattle.zd_progress.proofs.Counts.{release_counts}
@@ -78,9 +80,9 @@ module _ (first j c : ℕ) (a b : LoneRun) (is : IsAlone first j c a) (step : Fi
 
   -- by what is ready then
   record IsSpent (ready : Bool) : Type 0 where
-    jobs : jobs_by ready false None new ≤ behind
-    commits : commits_by ready false None b.commit new ≤ behind + 1
-    calls : calls_by j c ready false None b.commit new
+    jobs : jobs_ahead ready false None new ≤ behind
+    commits : commits_ahead ready false None b.commit new ≤ behind + 1
+    calls : calls_ahead j c ready false None b.commit new
         ≤ a.commit + step.job.calls + j * behind + c * (behind + 1) + 1
 
   spent : (ready : Bool) → IsSpent ready
@@ -94,7 +96,7 @@ module _ (first j c : ℕ) (a b : LoneRun) (is : IsAlone first j c a) (step : Fi
         calls = omega (arith, step.same_commit, mul-le-mul_left j no_more, mul-le-mul_left c commits);
       }
 
-  pub finish_spends : Spends j c a b
+  pub finish_spends : SpendsNoMore j c a b
   finish_spends =
       let beside = is.beside step.job step.was in
       let before = is_now j c a false false (Some step.job) beside.not_ready beside.no_flush step.was in

@@ -1,12 +1,13 @@
 -- A job begins, and copies: no more is to come than before.
-use Rattle.std.proofs.Common.{◌≡◌, inl, inr, ℕ, ◌+◌, ◌*◌, ◌<◌, ◌≤◌, Bool, false, cond, ◌&&◌, nat_lt, set, Some, None, subst}
+use Rattle.std.proofs.Common.{◌≡◌, inl, inr, ℕ, ◌+◌, ◌*◌, ◌<◌, ◌≤◌, Bool, false, cond, ◌&&◌, nat_lt, set, Some, None}
+use Rattle.std.proofs.Common.{subst}
 use Rattle.std.proofs.Common.{refl, sym, ap, ◌∙◌, arith}
 use Rattle.std.proofs.Math.Nat.{mul-le-mul_left}
 use Rattle.std.proofs.lemmas.Bool.{cases_Bool, lt-ltb, le-ltb, ltb-true, and_parts}
 use Rattle.zd_base.specs.declared.geometry.Kind.TheVariants.{Conventional, Sequential}
 use Rattle.zd_progress.specs.LoneRuns.{IsAlone, IsBeside, JobAhead, LoneRun, calls_to_come, commits_now, jobs_behind}
 use Rattle.zd_progress.specs.LoneRuns.{jobs_needed}
-use Rattle.zd_progress.specs.LoneSteps.{CopiesOne, Spends, StartsJob}
+use Rattle.zd_progress.specs.LoneSteps.{CopiesOne, SpendsNoMore, StartsJob}
 use Rattle.zd_progress.specs.Stocks.{Stock, free_of, in_limbo, limbo_of, on_count}
 use Rattle.zd_progress.proofs.Bounds.{few_behind, times_more}
 use Rattle.zd_progress.proofs.CommitSpends.{is_now, now_none}
@@ -53,7 +54,7 @@ module _ (first j c : ℕ) (a b : LoneRun) (is : IsAlone first j c a) (step : St
         omega (arith, n, few_behind s.division.conv step.job)
   ]
 
-  pub begin_spends : Spends j c a b
+  pub begin_spends : SpendsNoMore j c a b
   begin_spends =
       let before = is_now j c a false false None step.not_ready step.no_flush step.no_job in
       let now = is_now j c b false false (Some step.job) step.same_ready step.same_flush step.is in
@@ -101,7 +102,7 @@ module _ (first j c : ℕ) (a b : LoneRun) (is : IsAlone first j c a) (step : St
       })
 
 module _ (first j c : ℕ) (a b : LoneRun) (is : IsAlone first j c a) (step : CopiesOne a b) where
-  pub copy_spends : Spends j c a b
+  pub copy_spends : SpendsNoMore j c a b
   copy_spends =
       let beside = is.beside step.job step.was in
       let before = is_now j c a false false (Some step.job) beside.not_ready beside.no_flush step.was in

@@ -1,9 +1,10 @@
 -- A run that is alone stays so, and no more is to come before its next piece is entered.
-use Rattle.std.proofs.Common.{◌≡◌, inl, inr, ℕ, ◌+◌, ◌≤◌, true, false, Some, None, refl, sym, ap, ◌∙◌, true≢false, arith}
+use Rattle.std.proofs.Common.{◌≡◌, inl, inr, ℕ, ◌+◌, ◌≤◌, true, false, Some, None, refl, sym, ap, ◌∙◌, true≢false}
+use Rattle.std.proofs.Common.{arith}
 use Rattle.std.proofs.lemmas.Bool.{cases_eq, cases_Bool, eq-eqb, ne_eqb}
-use Rattle.zd_progress.specs.LoneRuns.{IsAlone, IsBeside, IsSound, JobAhead, LoneRun, calls_to_come, commit_calls}
-use Rattle.zd_progress.specs.LoneRuns.{commits_by, commits_to_come, job_calls, jobs_to_come, most_calls}
-use Rattle.zd_progress.specs.LoneSteps.{EntersNow, EntryCause, FliesOn, LoneStep, Spends}
+use Rattle.zd_progress.specs.LoneRuns.{IsAlone, IsBeside, IsSoundRun, JobAhead, LoneRun, calls_to_come, calls_of_commit}
+use Rattle.zd_progress.specs.LoneRuns.{commits_ahead, commits_to_come, job_calls, jobs_to_come, most_calls}
+use Rattle.zd_progress.specs.LoneSteps.{EntersNow, EntryCause, FliesOn, LoneStep, SpendsNoMore}
 use Rattle.zd_progress.specs.LoneSteps.EntryCause.{flush, ready}
 use Rattle.zd_progress.specs.LoneSteps.LoneStep.{commits, copies, finishes, starts}
 use Rattle.zd_progress.specs.Paces.{IsInTime}
@@ -20,13 +21,13 @@ none_calls : (j : ℕ) (b : LoneRun) → b.job ≡ None → job_calls b.job ≤ 
 none_calls j b none = let e : job_calls b.job ≡ 0 = ap job_calls none in omega (arith, e)
 
 module _ (first j c : ℕ) (a b : LoneRun) (is : IsAlone first j c a) where
-  pub step_spends : LoneStep j a b → Spends j c a b
+  pub step_spends : LoneStep j a b → SpendsNoMore j c a b
   step_spends (commits s) = commit_spends first j c a b is s
   step_spends (starts s) = begin_spends first j c a b is s
   step_spends (copies s) = copy_spends first j c a b is s
   step_spends (finishes s) = finish_spends first j c a b is s
 
-  pub step_alone : IsSound first c b → LoneStep j a b → IsAlone first j c b
+  pub step_alone : IsSoundRun first c b → LoneStep j a b → IsAlone first j c b
   step_alone sound (commits s) = record {
     waiting = sound.waiting;
     stocked = sound.stocked;
@@ -34,7 +35,7 @@ module _ (first j c : ℕ) (a b : LoneRun) (is : IsAlone first j c a) where
     few_calls = none_calls j b s.no_job_yet;
     commit = elim (cases_eq a.commit 0) [
       | inl e ↦
-          let l : b.commit + 1 ≡ commit_calls a.dirty = s.left ∙ rw (eq-eqb a.commit 0 e) refl in
+          let l : b.commit + 1 ≡ calls_of_commit a.dirty = s.left ∙ rw (eq-eqb a.commit 0 e) refl in
           omega (arith, l, is.dirty)
       | inr ne ↦
           let l : b.commit + 1 ≡ a.commit = s.left ∙ rw (ne_eqb a.commit 0 ne) refl in
@@ -86,7 +87,7 @@ module _ (first j c : ℕ) (a b : LoneRun) (is : IsAlone first j c a) where
   ]
 
   -- a run in which no job is under way then either
-  still_alone : IsSound first c b → b.job ≡ None → b.commit ≤ a.commit → IsAlone first j c b
+  still_alone : IsSoundRun first c b → b.job ≡ None → b.commit ≤ a.commit → IsAlone first j c b
   still_alone sound none fewer = record {
     waiting = sound.waiting;
     stocked = sound.stocked;
@@ -96,10 +97,10 @@ module _ (first j c : ℕ) (a b : LoneRun) (is : IsAlone first j c a) where
     dirty = sound.dirty;
   }
 
-  pub enter_alone : IsSound first c b → EntersNow a b → IsAlone first j c b
+  pub enter_alone : IsSoundRun first c b → EntersNow a b → IsAlone first j c b
   enter_alone sound s = still_alone sound (s.no_job (no_job s.cause)) s.commit
 
-  pub fly_alone : IsSound first c b → FliesOn a b → IsAlone first j c b
+  pub fly_alone : IsSoundRun first c b → FliesOn a b → IsAlone first j c b
   fly_alone sound s = still_alone sound (s.no_job (no_job (ready s.ready s.commits))) (omega (arith, s.commit))
 
   pub step_in_time : (x y z : ℕ) → LoneStep j a b → IsInTime j c x y z a
@@ -133,7 +134,7 @@ module _ (first j c : ℕ) (a b : LoneRun) (is : IsAlone first j c a) where
   entry_commits : EntryCause a b → b.commits ≤ a.commits + commits_to_come a
   entry_commits (ready ok same) = omega (arith, same)
   entry_commits (flush off ok same) =
-      let e : commits_to_come a ≡ commits_by false true a.job a.commit a.stock = rw (off, ok) refl in
+      let e : commits_to_come a ≡ commits_ahead false true a.job a.commit a.stock = rw (off, ok) refl in
       omega (arith, same, e)
 
   -- entered in time

@@ -1,5 +1,6 @@
 -- The loop of a run: its measure, what is true before each step, and what is promised of its end.
-use Rattle.std.proofs.Common.{◌≡◌, ℕ, zero, suc, ◌+◌, ◌<◌, ◌≤◌, true, Option, Some, None, subst, refl, sym, ap, ap₂, ◌∙◌, arith}
+use Rattle.std.proofs.Common.{◌≡◌, ℕ, zero, suc, ◌+◌, ◌<◌, ◌≤◌, true, Option, Some, None, subst, refl, sym, ap, ap₂}
+use Rattle.std.proofs.Common.{◌∙◌, arith}
 use Rattle.zd_base.specs.declared.numbers.Why.{Why}
 use Rattle.zd_base.specs.declared.numbers.Why.TheVariants.{Generation}
 use Rattle.zd_base.specs.declared.steps.Stepped.{Stepped}
@@ -7,7 +8,8 @@ use Rattle.zd_base.specs.declared.steps.Stepped.TheVariants.{Did, Idle, Over, St
 use Rattle.zd_progress.specs.LoneRuns.{most_calls}
 use Rattle.zd_progress.specs.Measures.{measure}
 use Rattle.zd_progress.specs.Paces.{AreClose, HaltsAt, IsAloneNow, IsAtLast, IsFreshLoop, IsLastAnswer, IsMadeStep}
-use Rattle.zd_progress.specs.Paces.{IsPacedLoop, IsPromised, IsWholeRun, KeepsLimits, LoopAnswers, LoopState, MakesSteps}
+use Rattle.zd_progress.specs.Paces.{IsPacedLoop, IsPromised, IsWholeRun, KeepsLimits, LoopAnswers, LoopState}
+use Rattle.zd_progress.specs.Paces.{MakesSteps}
 use Rattle.zd_progress.proofs.MeasureLaws.{lessens}
 use Rattle.zd_progress.proofs.PaceLaws.{close_halt, counted_on, may_close, never_last, paced_begin, paced_on}
 

@@ -1,5 +1,5 @@
 -- Each step lessens the measure.
-use Rattle.std.proofs.Common.{◌≡◌, ℕ, zero, suc, ◌+◌, ◌*◌, ◌<◌, ◌≤◌, ap, arith}
+use Rattle.std.proofs.Common.{◌≡◌, ℕ, ◌+◌, ◌*◌, ◌<◌, ◌≤◌, ap, arith}
 use Rattle.std.proofs.Math.Nat.{mul-le-mul_right}
 use Rattle.zd_progress.specs.Measures.{IsRestWithin, Lessens, Rest, a_job, a_piece, measure}
 use Rattle.zd_progress.specs.Measures.Lessens.{ends, enters, goes_on}

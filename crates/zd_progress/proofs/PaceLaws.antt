@@ -1,13 +1,14 @@
 -- Steps keep a run on time.
-use Rattle.std.proofs.Common.{◌≡◌, ◌⊎◌, inl, inr, ℕ, suc, ◌+◌, ◌-◌, ◌*◌, ◌^◌, ◌<◌, ◌≤◌, true, false, true≢false, List, length}
+use Rattle.std.proofs.Common.{◌≡◌, ◌⊎◌, inl, inr, ℕ, suc, ◌+◌, ◌-◌, ◌*◌, ◌^◌, ◌<◌, ◌≤◌, true, false, true≢false, List}
+use Rattle.std.proofs.Common.{length}
 use Rattle.std.proofs.Common.{None, subst, refl, sym, ap, ◌∙◌, arith}
 use Rattle.std.proofs.lemmas.Bool.{cases_Bool}
-use Rattle.zd_progress.specs.LoneRuns.{IsAlone, IsBeside, IsSound, JobAhead, LoneRun, commits_by, commits_to_come}
+use Rattle.zd_progress.specs.LoneRuns.{IsAlone, IsBeside, IsSoundRun, JobAhead, LoneRun, commits_ahead, commits_to_come}
 use Rattle.zd_progress.specs.LoneRuns.{most_calls}
 use Rattle.zd_progress.specs.LoneSteps.{IsCommitNeeded}
 use Rattle.zd_progress.specs.LoneSteps.IsCommitNeeded.{flush, zone}
-use Rattle.zd_progress.specs.Paces.{AreClose, HaltsAt, IsAtLast, IsCounted, IsInTime, IsPaced, IsUnpaced}
-use Rattle.zd_progress.specs.Paces.{Pace, PacesOn, at_before, under_way}
+use Rattle.zd_progress.specs.Paces.{AreClose, HaltsAt, IsAtLast, IsAccounted, IsInTime, IsPaced, IsUnpaced}
+use Rattle.zd_progress.specs.Paces.{Pace, PacesOn, at_before, commits_under_way}
 use Rattle.zd_progress.specs.Paces.HaltsAt.{faults, silent}
 use Rattle.zd_progress.specs.Paces.PacesOn.{enters, flies, steps}
 use Rattle.zd_progress.proofs.CommitSpends.{now_one}
@@ -52,7 +53,7 @@ module _ (first j c : ℕ) (a b : Pace) (some : 1 ≤ c) (is : IsPaced first j c
         (sym same) t;
   }
 
-  pub paced_on : IsSound first c b.run → PacesOn j a b → IsPaced first j c b
+  pub paced_on : IsSoundRun first c b.run → PacesOn j a b → IsPaced first j c b
   paced_on sound (steps s same more left counts) = still
       (step_alone first j c a.run b.run is.alone sound s)
       (step_in_time first j c a.run b.run is.alone last_at is.jobs_before is.commits_before s is.in_time)
@@ -89,8 +90,8 @@ module _ (first j c : ℕ) (a b : Pace) (some : 1 ≤ c) (is : IsPaced first j c
       (close_more (most_calls j c) at (suc n) a.ats is.close
       (omega (arith, near, one_to_come first j c a.run b.run is.alone, is.in_time.calls_in)))
 
-pub counted_on : (j opening pieces : ℕ) (a b : Pace) → IsCounted opening pieces a → PacesOn j a b
-    → IsCounted opening pieces b
+pub counted_on : (j opening pieces : ℕ) (a b : Pace) → IsAccounted opening pieces a → PacesOn j a b
+    → IsAccounted opening pieces b
 counted_on j opening pieces a b is (steps s same more left counts) = record {
   all = let e : length b.ats ≡ length a.ats = ap length same in omega (arith, is.all, e, left);
   generation = omega (arith, is.generation, counts);
@@ -127,11 +128,11 @@ one_commit first j c r is off idle due = elim (cases_option r.job) [
     by (flush waits) cases none = waiting waits
     by (zone wanted some) (inl waits) none = waiting waits
     by (zone wanted some) (inr no_flush) none =
-        let e : commits_to_come r ≡ commits_by false false None r.commit r.stock = rw (off, no_flush, none) refl in
+        let e : commits_to_come r ≡ commits_ahead false false None r.commit r.stock = rw (off, no_flush, none) refl in
         omega (arith, e, now_one r.commit r.stock idle some)
 
 -- with room for three commits a piece none meets the last generation
-pub never_last : (first j c opening pieces : ℕ) (a : Pace) → IsPaced first j c a → IsCounted opening pieces a
+pub never_last : (first j c opening pieces : ℕ) (a : Pace) → IsPaced first j c a → IsAccounted opening pieces a
     → opening + 3 * pieces + 2 ≤ 2 ^ 64 - 1 → IsAtLast a → ⊥
 never_last first j c opening pieces a is counted room at =
     let one = one_commit first j c a.run is.alone at.not_ready at.idle at.due in
@@ -148,7 +149,7 @@ never_last first j c opening pieces a is counted room at =
     )
 
 -- and closing has room for one more
-pub may_close : (first j c opening pieces : ℕ) (a : Pace) → IsPaced first j c a → IsCounted opening pieces a
-    → a.left ≡ 0 → a.generation + under_way a.run ≤ opening + 3 * pieces
+pub may_close : (first j c opening pieces : ℕ) (a : Pace) → IsPaced first j c a → IsAccounted opening pieces a
+    → a.left ≡ 0 → a.generation + commits_under_way a.run ≤ opening + 3 * pieces
 may_close first j c opening pieces a is counted over =
     omega (arith, is.few_at_end over, counted.all, counted.generation, over)

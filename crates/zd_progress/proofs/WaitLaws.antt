@@ -1,8 +1,8 @@
 -- Where nothing is ready for a lone actor and no commit is under way, a flush waits or a zone is wanted.
-use Rattle.std.proofs.Common.{◌≡◌, ◌⊎◌, inl, inr, ℕ, zero, suc, ◌<◌, ◌≤◌, Bool, true, false, cond, ◌&&◌, ◌||◌, not, eqb}
-use Rattle.std.proofs.Common.{List, [], ◌∷◌, length, get_or, find, slice_get, Option, Some, None, refl, sym, ap, ◌∙◌}
+use Rattle.std.proofs.Common.{◌≡◌, ◌⊎◌, inl, inr, ℕ, zero, suc, ◌≤◌, Bool, true, false, cond, ◌&&◌, ◌||◌, not, eqb}
+use Rattle.std.proofs.Common.{List, [], ◌∷◌, get_or, find, slice_get, Option, Some, None, refl, sym, ap, ◌∙◌}
 use Rattle.std.proofs.Common.{true≢false, arith}
-use Rattle.std.specs.List.{list_all, list_any}
+use Rattle.std.specs.List.{list_all}
 use Rattle.std.proofs.lemmas.Bool.{and_from, and_parts, cases_Bool, cases_lt, cond-false, cond-true, eq-eqb, eqb-true}
 use Rattle.std.proofs.lemmas.Bool.{false_from_ne_true, false≢true, not_from_false, or_left, or_right}
 use Rattle.std.proofs.lemmas.Option.{none-some, same_Some, slice_get-get_or, slice_get_within, get_or_from_slice_get}
@@ -11,11 +11,12 @@ use Rattle.zd_model.specs.Requests.{Operation, operation_of}
 use Rattle.zd_model.specs.Requests.Operation.{Reading, Writing, Discarding, Flushing}
 use Rattle.zd_model.specs.declared.requests.Piece.{Piece}
 use Rattle.zd_steps.specs.NextStep.{first_serve, piece_step}
-use Rattle.zd_steps.specs.Queues.{Callers, HasEntered, IsQueue, QueueState, first_of, head_of, run_of}
-use Rattle.zd_steps.specs.Runs.{Run, Standing, chunk_of, flies, flight_of, flushes, has_flush, is_discarding, is_eligible}
-use Rattle.zd_steps.specs.Runs.{is_eligible_flush, is_entered, is_flight_of, is_flight_on, is_flushing, is_held, is_over}
+use Rattle.zd_steps.specs.Queues.{Callers, HasEntered, IsQueue, QueueState, head_of, run_of}
+use Rattle.zd_steps.specs.Runs.{Run, Standing, chunk_of, flies, flight_of, flushes, has_flush, is_discarding}
+use Rattle.zd_steps.specs.Runs.{is_eligible}
+use Rattle.zd_steps.specs.Runs.{is_eligible_flush, is_entered, is_flight_of, is_flight_on, is_flushing, is_held}
+use Rattle.zd_steps.specs.Runs.{is_over}
 use Rattle.zd_steps.specs.Runs.{is_reading, is_ready, is_servable, is_wanted, is_writing, lacks_zone, wants_zone}
-use Rattle.zd_steps.specs.declared.step.Step.{Step}
 use Rattle.zd_steps.specs.declared.step.Step.TheVariants.{Serve}
 use Rattle.zd_steps.proofs.ChosenLaws.{flight_at}
 use Rattle.zd_steps.proofs.EligibleLaws.{first_eligible}

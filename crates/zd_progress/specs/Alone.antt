@@ -1,5 +1,5 @@
 -- What the rules of steps say of an actor that prefers pieces, while no other one has a piece in flight.
-use Rattle.std.specs.Prelude.{◌≡◌, ℕ, Bool, true, false, ◌||◌, nat_lt, List, drop, slice_get, count_by, Option, Some, None}
+use Rattle.std.specs.Prelude.{◌≡◌, ℕ, true, false, ◌||◌, nat_lt, List, drop, slice_get, count_by, Option, Some, None}
 use Rattle.std.specs.Prelude.{is_some}
 use Rattle.zd_base.specs.declared.geometry.Kind.TheVariants.{Conventional}
 use Rattle.zd_model.specs.declared.requests.Piece.{Piece}

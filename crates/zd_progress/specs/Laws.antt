@@ -7,9 +7,9 @@ use Rattle.zd_steps.specs.NextStep.{next_step}
 use Rattle.zd_steps.specs.Queues.{HasEntered, IsQueue, QueueState, run_of}
 use Rattle.zd_steps.specs.Runs.{Standing, is_over}
 use Rattle.zd_progress.specs.Alone.{FliesAlone, IsSeenBy, TellsNext, others_in}
-use Rattle.zd_progress.specs.LoneRuns.{IsAlone, IsWaiting, JobAhead, LoneRun, calls_to_come, commit_calls}
+use Rattle.zd_progress.specs.LoneRuns.{IsAlone, IsWaitingRun, JobAhead, LoneRun, calls_to_come, calls_of_commit}
 use Rattle.zd_progress.specs.LoneRuns.{commits_to_come, jobs_to_come, most_calls}
-use Rattle.zd_progress.specs.LoneSteps.{LoneStep, Spends}
+use Rattle.zd_progress.specs.LoneSteps.{LoneStep, SpendsNoMore}
 use Rattle.zd_progress.specs.Measures.{EndsJob, jobs_ever, measure}
 use Rattle.zd_progress.specs.Paces.{IsFreshLoop, IsMadeStep, IsPromised, IsWholeRun, KeepsLimits, LoopState, MakesSteps}
 use Rattle.zd_progress.specs.Stocks.{Stock}
@@ -19,7 +19,7 @@ use Rattle.zd_progress.specs.Stocks.{Stock}
 abbrev pub LoneRunsWait : Type 0
 LoneRunsWait = (q : QueueState) (entered : List Mark) (v : Standing) (actor : ℕ) (l : LoneRun) →
     IsQueue q.chunk_blocks q.callers q.flights → HasEntered q.callers entered → FliesAlone q.flights actor →
-    IsSeenBy (run_of q entered) v actor l → IsWaiting l
+    IsSeenBy (run_of q entered) v actor l → IsWaitingRun l
 
 -- and the next step of an actor that prefers pieces tells why it comes next
 abbrev pub NextStepsTell : Type 0
@@ -40,12 +40,12 @@ FewAreToCome = (first j c : ℕ) (r : LoneRun) → 1 ≤ c → IsAlone first j c
 
 -- and no step that enters nothing raises what it made and what is to come
 abbrev pub NoMoreIsToCome : Type 0
-NoMoreIsToCome = (first j c : ℕ) (a b : LoneRun) → IsAlone first j c a → LoneStep j a b → Spends j c a b
+NoMoreIsToCome = (first j c : ℕ) (a b : LoneRun) → IsAlone first j c a → LoneStep j a b → SpendsNoMore j c a b
 
 -- a commit of so many dirty blocks among so many that are used, behind the super block, makes no more calls than T3.3
 -- counts for one
 abbrev pub CommitsMakeFewCalls : Type 0
-CommitsMakeFewCalls = (dirty used : ℕ) → dirty + 1 ≤ used → commit_calls dirty ≤ 2 * used + 4
+CommitsMakeFewCalls = (dirty used : ℕ) → dirty + 1 ≤ used → calls_of_commit dirty ≤ 2 * used + 4
 
 -- each step that is made lessens the measure
 abbrev pub StepsLessen : Type 0

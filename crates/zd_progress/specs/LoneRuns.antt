@@ -32,8 +32,8 @@ pub record LoneRun : Type 0 where
   pub commits : ℕ
 
 -- the calls of a commit with so many dirty blocks
-abbrev pub commit_calls : ℕ → ℕ
-commit_calls d = if d == 0 then 1 else 2 * d + 6
+abbrev pub calls_of_commit : ℕ → ℕ
+calls_of_commit d = if d == 0 then 1 else 2 * d + 6
 
 -- how many jobs may still be needed, where no conventional zone is free and none is under way
 abbrev pub jobs_needed : Stock → ℕ
@@ -51,38 +51,38 @@ abbrev pub commits_now : ℕ → Stock → ℕ
 commits_now commit s = if (commit == 0) && nat_lt 0 (in_limbo s) then 1 else 0
 
 -- the jobs that may still begin before a piece is entered, by whether one is ready and whether a flush waits
-abbrev pub jobs_by : Bool → Bool → Option JobAhead → Stock → ℕ
-jobs_by true flush job s = 0
-jobs_by false true job s = 0
-jobs_by false false (Some w) s = jobs_behind s.division.conv w
-jobs_by false false None s = jobs_needed s
+abbrev pub jobs_ahead : Bool → Bool → Option JobAhead → Stock → ℕ
+jobs_ahead true flush job s = 0
+jobs_ahead false true job s = 0
+jobs_ahead false false (Some w) s = jobs_behind s.division.conv w
+jobs_ahead false false None s = jobs_needed s
 
 -- the commits: one behind each job
-abbrev pub commits_by : Bool → Bool → Option JobAhead → ℕ → Stock → ℕ
-commits_by true flush job commit s = 0
-commits_by false true job commit s = if commit == 0 then 1 else 0
-commits_by false false (Some w) commit s = jobs_behind s.division.conv w + 1
-commits_by false false None commit s = jobs_needed s + commits_now commit s
+abbrev pub commits_ahead : Bool → Bool → Option JobAhead → ℕ → Stock → ℕ
+commits_ahead true flush job commit s = 0
+commits_ahead false true job commit s = if commit == 0 then 1 else 0
+commits_ahead false false (Some w) commit s = jobs_behind s.division.conv w + 1
+commits_ahead false false None commit s = jobs_needed s + commits_now commit s
 
 abbrev pub job_calls : Option JobAhead → ℕ
 job_calls None = 0
 job_calls (Some w) = w.calls
 
 -- the writing calls, where a job makes j at most and a commit c
-abbrev pub calls_by : ℕ → ℕ → Bool → Bool → Option JobAhead → ℕ → Stock → ℕ
-calls_by j c true flush job commit s = 1
-calls_by j c false flush job commit s =
-    commit + job_calls job + j * jobs_by false flush job s + c * commits_by false flush job commit s + 1
+abbrev pub calls_ahead : ℕ → ℕ → Bool → Bool → Option JobAhead → ℕ → Stock → ℕ
+calls_ahead j c true flush job commit s = 1
+calls_ahead j c false flush job commit s =
+    commit + job_calls job + j * jobs_ahead false flush job s + c * commits_ahead false flush job commit s + 1
 
 -- WHAT IS TO COME before the next piece is entered
 abbrev pub jobs_to_come : LoneRun → ℕ
-jobs_to_come r = jobs_by r.is_ready r.flush_waits r.job r.stock
+jobs_to_come r = jobs_ahead r.is_ready r.flush_waits r.job r.stock
 
 abbrev pub commits_to_come : LoneRun → ℕ
-commits_to_come r = commits_by r.is_ready r.flush_waits r.job r.commit r.stock
+commits_to_come r = commits_ahead r.is_ready r.flush_waits r.job r.commit r.stock
 
 abbrev pub calls_to_come : ℕ → ℕ → LoneRun → ℕ
-calls_to_come j c r = calls_by j c r.is_ready r.flush_waits r.job r.commit r.stock
+calls_to_come j c r = calls_ahead j c r.is_ready r.flush_waits r.job r.commit r.stock
 
 -- no more than two jobs and three commits, and the calls that they allow
 abbrev pub most_calls : ℕ → ℕ → ℕ
@@ -90,7 +90,7 @@ most_calls j c = 2 * j + 3 * c + 1
 
 -- what the rules of steps say: where nothing is ready, no commit is under way and no flush waits, a zone is wanted;
 -- and none is free then
-pub record IsWaiting (r : LoneRun) : Type 0 where
+pub record IsWaitingRun (r : LoneRun) : Type 0 where
   pub some : r.is_ready ≡ false → r.commit ≡ 0 → r.flush_waits ≡ false → r.is_wanted ≡ true
   pub none_free : r.is_wanted ≡ true → free_of Conventional r.stock ≡ 0
 
@@ -107,15 +107,15 @@ pub record IsBeside (w : JobAhead) (r : LoneRun) : Type 0 where
 
 -- A RUN THAT HAS BEEN ALONE since it began; a job makes j calls at most, a commit c
 pub record IsAlone (first j c : ℕ) (r : LoneRun) : Type 0 where
-  pub waiting : IsWaiting r
+  pub waiting : IsWaitingRun r
   pub stocked : r.job ≡ None → IsStocked first r.stock
   pub beside : (w : JobAhead) → r.job ≡ Some w → IsBeside w r
   pub few_calls : job_calls r.job ≤ j
   pub commit : r.commit ≤ c
-  pub dirty : commit_calls r.dirty ≤ c
+  pub dirty : calls_of_commit r.dirty ≤ c
 
 -- what the volume and the rules of steps give after each step
-pub record IsSound (first c : ℕ) (r : LoneRun) : Type 0 where
-  pub waiting : IsWaiting r
+pub record IsSoundRun (first c : ℕ) (r : LoneRun) : Type 0 where
+  pub waiting : IsWaitingRun r
   pub stocked : r.job ≡ None → IsStocked first r.stock
-  pub dirty : commit_calls r.dirty ≤ c
+  pub dirty : calls_of_commit r.dirty ≤ c

@@ -1,9 +1,9 @@
 -- What each kind of step makes of a run that is alone.
 use Rattle.std.specs.Prelude.{◌≡◌, ℕ, ◌+◌, ◌<◌, ◌≤◌, Bool, true, false, ◌==◌, if◌then◌else◌, length, map, set}
-use Rattle.std.specs.Prelude.{Option, Some, None}
+use Rattle.std.specs.Prelude.{Some, None}
 use Rattle.zd_base.specs.declared.geometry.Kind.TheVariants.{Conventional}
 use Rattle.zd_alloc.specs.Zones.{after_limbo, use_after_release}
-use Rattle.zd_progress.specs.LoneRuns.{JobAhead, LoneRun, calls_to_come, commit_calls, commits_to_come, jobs_to_come}
+use Rattle.zd_progress.specs.LoneRuns.{JobAhead, LoneRun, calls_to_come, calls_of_commit, commits_to_come, jobs_to_come}
 use Rattle.zd_progress.specs.Stocks.{IsPickedFor, free_of, in_limbo}
 
 -- WHY A COMMIT IS DUE: a flush waits, or a zone is wanted and one is in limbo
@@ -19,7 +19,7 @@ pub record CommitsOn (a b : LoneRun) : Type 0 where
   pub due : a.commit ≡ 0 → IsCommitNeeded a
   pub flush : b.flush_waits ≡ a.flush_waits
   pub goes_on : a.flush_waits ≡ true → 0 < b.commit
-  pub left : b.commit + 1 ≡ (if a.commit == 0 then commit_calls a.dirty else a.commit)
+  pub left : b.commit + 1 ≡ (if a.commit == 0 then calls_of_commit a.dirty else a.commit)
   pub under_way : 0 < b.commit → b.stock ≡ a.stock
   pub ended : b.commit ≡ 0 → b.stock ≡ record a.stock {
     division = record a.stock.division { zones = map after_limbo a.stock.division.zones };
@@ -115,7 +115,7 @@ pub record EntersNow (a b : LoneRun) : Type 0 where
   pub calls : b.calls ≤ a.calls + 1
 
 -- no more is to come than before, with what this step began and made
-pub record Spends (j c : ℕ) (a b : LoneRun) : Type 0 where
+pub record SpendsNoMore (j c : ℕ) (a b : LoneRun) : Type 0 where
   pub jobs : b.jobs + jobs_to_come b ≤ a.jobs + jobs_to_come a
   pub commits : b.commits + commits_to_come b ≤ a.commits + commits_to_come a
   pub calls : b.calls + calls_to_come j c b ≤ a.calls + calls_to_come j c a

@@ -5,7 +5,8 @@ use Rattle.zd_base.specs.declared.numbers.Why.{Why}
 use Rattle.zd_base.specs.declared.numbers.Why.TheVariants.{Generation}
 use Rattle.zd_base.specs.declared.steps.Stepped.{Stepped}
 use Rattle.zd_base.specs.declared.steps.Stepped.TheVariants.{Did, Idle, Over, Stopped}
-use Rattle.zd_progress.specs.LoneRuns.{IsAlone, IsSound, LoneRun, calls_to_come, commits_to_come, jobs_to_come, most_calls}
+use Rattle.zd_progress.specs.LoneRuns.{IsAlone, IsSoundRun, LoneRun, calls_to_come, commits_to_come, jobs_to_come}
+use Rattle.zd_progress.specs.LoneRuns.{most_calls}
 use Rattle.zd_progress.specs.LoneSteps.{EntersNow, FliesOn, IsCommitNeeded, LoneStep}
 use Rattle.zd_progress.specs.Measures.{IsRestWithin, Lessens, Rest}
 
@@ -33,13 +34,13 @@ with_entries at zero ats = ats
 with_entries at (suc n) ats = with_entries at n ats ++ at ∷ []
 
 -- a commit is under way, which will raise the generation by one
-abbrev pub under_way : LoneRun → ℕ
-under_way r = if r.commit == 0 then 0 else 1
+abbrev pub commits_under_way : LoneRun → ℕ
+commits_under_way r = if r.commit == 0 then 0 else 1
 
 -- the generation rises by no more than the commits that begin
 abbrev pub CountsCommits : Pace → Pace → Type 0
 CountsCommits a b =
-    b.generation + under_way b.run + a.run.commits ≤ a.generation + under_way a.run + b.run.commits
+    b.generation + commits_under_way b.run + a.run.commits ≤ a.generation + commits_under_way a.run + b.run.commits
 
 -- A STEP OF A RUN THAT IS ALONE and goes on
 pub data PacesOn (j : ℕ) (a b : Pace) : Type 0 where
@@ -86,9 +87,9 @@ pub record IsUnpaced (first j c : ℕ) (p : Pace) : Type 0 where
   pub no_commits : p.run.commits ≡ 0
 
 -- each piece is entered or left, and the generation has risen by no more than the commits that began
-pub record IsCounted (opening pieces : ℕ) (p : Pace) : Type 0 where
+pub record IsAccounted (opening pieces : ℕ) (p : Pace) : Type 0 where
   pub all : length p.ats + p.left ≡ pieces
-  pub generation : p.generation + under_way p.run ≤ opening + p.run.commits
+  pub generation : p.generation + commits_under_way p.run ≤ opening + p.run.commits
 
 -- ALL THAT THE LOOP SEES of a session
 pub record LoopState : Type 0 where
@@ -126,7 +127,7 @@ pub record IsMadeStep (a b : LoopState) : Type 0 where
   pub within : IsRestWithin a.most b.rest
   pub lessens : Lessens a.rest b.rest
   pub paces : IsAloneNow a → PacesOn a.job_calls a.pace b.pace
-  pub sound : IsAloneNow a → IsSound a.first a.commit_calls b.pace.run
+  pub sound : IsAloneNow a → IsSoundRun a.first a.commit_calls b.pace.run
   pub going : b.stopped ≡ None
 
 -- WHAT EACH ANSWER OF A STEP SAYS
@@ -142,7 +143,7 @@ LoopAnswers (Stopped why) a b =
 pub record IsFreshLoop (s : LoopState) : Type 0 where
   pub is : IsUnpaced s.first s.job_calls s.commit_calls s.pace
   pub some : 1 ≤ s.commit_calls
-  pub counted : IsCounted s.opening s.pieces s.pace
+  pub counted : IsAccounted s.opening s.pieces s.pace
   pub going : s.stopped ≡ None
   pub nobody : s.others ≡ 0
 
@@ -150,7 +151,7 @@ pub record IsFreshLoop (s : LoopState) : Type 0 where
 pub record IsPacedLoop (s : LoopState) : Type 0 where
   pub is : IsPaced s.first s.job_calls s.commit_calls s.pace
   pub some : 1 ≤ s.commit_calls
-  pub counted : IsCounted s.opening s.pieces s.pace
+  pub counted : IsAccounted s.opening s.pieces s.pace
   pub going : s.stopped ≡ None
   pub nobody : s.others ≡ 0
 
@@ -160,7 +161,7 @@ pub record IsPromised (s b : LoopState) : Type 0 where
   pub ended : b.has_ended ≡ true
   pub close : AreClose (most_calls s.job_calls s.commit_calls) b.pace.ats
   pub room : s.opening + 3 * s.pieces + 2 ≤ 2 ^ 64 - 1 → b.stopped ≢ Some Generation
-  pub closing : b.stopped ≡ None → b.pace.generation + under_way b.pace.run ≤ s.opening + 3 * s.pieces
+  pub closing : b.stopped ≡ None → b.pace.generation + commits_under_way b.pace.run ≤ s.opening + 3 * s.pieces
 
 -- a step that answers so ends the loop
 abbrev pub IsLastAnswer : Stepped → Type 0
