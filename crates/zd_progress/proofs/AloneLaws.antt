@@ -145,8 +145,6 @@ module _ (q : QueueState) (is : IsQueue q.chunk_blocks q.callers q.flights) (ent
       let no_limbo : v.has_limbo ≡ false =
       seen.limbo ∙ le-ltb 0 (in_limbo l.stock) (let e = only.no_limbo in omega (arith, e)) in
       let picks = may_begin (is_wanted r v) v.has_limbo v.commits (is_low v) v.picks
-      (sym seen.wanted ∙ only.wanted) (seen.limbo ∙ le-ltb 0 (in_limbo l.stock) (let e = only.no_limbo in omega (arith, e)))
-      (idle_commit only.no_commit) in
       (sym seen.wanted ∙ only.wanted) no_limbo (idle_commit only.no_commit) in
       let is_due : is_job_due v (is_wanted r v) ≡ v.picks = rw is_job picks in
       elim (cases_Bool v.picks) [
