@@ -70,7 +70,11 @@ fn answer_piece(
         if let Some(why) = volume.stopped() {
             return Ok(Some(why));
         }
-        if !is_at_rest(volume) || !can_answer(volume, piece) || !has_room(volume, piece) || volume.spare() == 0 {
+        if !is_at_rest(volume)
+            || !can_answer(volume, piece)
+            || !has_room(volume, piece)
+            || volume.spare() == 0
+        {
             return Err(Broken::NoEnd);
         }
         match answer(volume, alloc, piece) {
@@ -97,7 +101,11 @@ fn longest(pieces: &[Piece]) -> u32 {
 }
 
 /// Answers pieces one after another, and closes the volume.
-fn answer_all(volume: &mut Volume<MemDisk>, alloc: Global, pieces: &[Piece]) -> Result<Outcome, Broken> {
+fn answer_all(
+    volume: &mut Volume<MemDisk>,
+    alloc: Global,
+    pieces: &[Piece],
+) -> Result<Outcome, Broken> {
     for piece in pieces {
         if let Some(why) = answer_piece(volume, alloc, piece)? {
             return Ok(Outcome::Ended(Ending::Stopped(why)));
@@ -113,8 +121,7 @@ fn answer_all(volume: &mut Volume<MemDisk>, alloc: Global, pieces: &[Piece]) -> 
 }
 
 /// The plan that the bytes of a script write.
-fn plan_of(alloc: Global, script: &[u8]) -> Result<Plan, Broken>
-{
+fn plan_of(alloc: Global, script: &[u8]) -> Result<Plan, Broken> {
     parse(alloc, script).ok().ok_or(Broken::NoScript)
 }
 
