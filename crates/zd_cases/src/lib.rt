@@ -5,6 +5,7 @@
 //! [`Bench::run_text`] also runs its cases one after the other, and tells those that failed.
 #![tactic(auto)]
 
+mod answerable;
 mod asks;
 mod bench;
 mod builds;
@@ -12,6 +13,7 @@ mod fault;
 mod lines;
 mod places;
 mod reading;
+mod reclaims;
 mod runs;
 mod sets;
 mod steps;
