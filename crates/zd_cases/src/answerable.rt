@@ -1,10 +1,9 @@
 //! Whether a volume can answer a piece, as it is found before it is asked.
 
-ghost use Rattle.std.specs.Prelude.{◌≡◌, ◌↔◌, IsTrue};
+ghost use Rattle.std.specs.Prelude.{◌≡◌, ◌↔◌, ◌<◌, ◌≤◌, IsTrue, false};
 ghost use Rattle.zd_alone.specs.Alone.{CanAnswer, HasRoom, IsAtRest};
 ghost use Rattle.zd_volume.specs.Discards.{chunk_touched, range_end};
 ghost use Rattle.zd_volume.specs.Flights.{IsPieceIn};
-ghost use Rattle.std.specs.Prelude.{◌<◌, ◌≤◌};
 
 use zd_disk::ZonedDisk;
 use zd_model::{Piece, What};
