@@ -5,7 +5,7 @@ use crate::builds::change;
 use crate::fault::Broken;
 use crate::places::copy;
 use crate::reading::{Case, CaseLine, parse_cases};
-use crate::runs::{Orders, Told, administer, reclaim, replay};
+use crate::runs::{Orders, Told, administer, replay};
 use crate::steps::{Step, Stop};
 use crate::stops::stopped;
 use std::alloc::{AllocError, Global};
@@ -143,10 +143,6 @@ impl Bench {
             }
             Step::Run(script) => {
                 let ran = replay(alloc, disk, &mut self.orders, script.as_str())?;
-                Ok(self.took(ran))
-            }
-            Step::Reclaim(script) => {
-                let ran = reclaim(alloc, disk, &mut self.orders, script.as_str())?;
                 Ok(self.took(ran))
             }
             Step::Admin(words) => {

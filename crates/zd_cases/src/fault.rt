@@ -70,10 +70,6 @@ pub enum Broken {
     NoImage,
     /// The disk as it was when the run began can't be opened.
     NotOpened,
-    /// A run with reclaim has bytes that are no script.
-    NoScript,
-    /// A run with reclaim can't go on, or a write waited too often.
-    NoEnd,
     /// There is no such stop.
     NoStop,
     /// No stop was taken.
@@ -94,8 +90,6 @@ impl fmt::Display for Broken {
             Broken::Unfit => "the disk can't be formatted so",
             Broken::NoImage => "no image has this name",
             Broken::NotOpened => "the disk could not be opened",
-            Broken::NoScript => "these bytes are no script",
-            Broken::NoEnd => "a piece was not answered in the end",
             Broken::NoStop => "there is no such stop",
             Broken::NoBack => "no stop was taken",
             Broken::Memory => "no memory",

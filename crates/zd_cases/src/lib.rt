@@ -5,7 +5,6 @@
 //! [`Bench::run_text`] also runs its cases one after the other, and tells those that failed.
 #![tactic(auto)]
 
-mod answerable;
 mod asks;
 mod bench;
 mod builds;
@@ -13,7 +12,6 @@ mod fault;
 mod lines;
 mod places;
 mod reading;
-mod reclaims;
 mod runs;
 mod sets;
 mod steps;

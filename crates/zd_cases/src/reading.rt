@@ -102,7 +102,6 @@ fn read_other(alloc: Global, word: &str, rest: &str, fields: &[&str]) -> Result<
         ("on", _) => Ok(Step::On(String::from_str(alloc, rest)?)),
         ("keep", _) => Ok(Step::Keep(String::from_str(alloc, rest)?)),
         ("run", _) => Ok(Step::Run(String::from_str(alloc, rest)?)),
-        ("reclaim", _) => Ok(Step::Reclaim(String::from_str(alloc, rest)?)),
         ("admin", words) => Ok(Step::Admin(owned_words(alloc, words)?)),
         ("stop", [at, first, items @ ..]) => Ok(Step::Stop(Stop {
             at: call_count(at)?,

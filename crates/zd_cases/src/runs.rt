@@ -2,18 +2,14 @@
 
 use crate::fault::Broken;
 use crate::lines::with_line_feeds;
-use crate::reclaims::{Ran, run_reclaiming};
 use crate::steps::Order;
 use std::alloc::{AllocError, Global};
 use std::mem;
 use zd_admin::admin;
-use zd_base::{Status, Why};
+use zd_base::Status;
 use zd_memdisk::{Fail, MemDisk};
-use zd_model::Outcome;
-use zd_plain::Ending;
 use zd_ports::{MemSink, MemSource};
 use zd_replay::replay_alone;
-use zd_report::output_text;
 
 /// What the next run is given besides its script.
 #[derive(Drop)]
@@ -115,48 +111,6 @@ pub fn replay(
     let told = Told {
         output: sink.held().to_vec(alloc)?,
         status,
-        before,
-        calls: disk.calls().saturating_sub(before),
-        reads: disk.read_calls().saturating_sub(reads),
-    };
-    Ok((disk, told))
-}
-
-/// The status of a run that was opened.
-fn status_of(outcome: &Outcome) -> Status {
-    Status(match outcome {
-        Outcome::Ended(Ending::Ok) => 0,
-        Outcome::Ended(Ending::Stopped(Why::Device)) => 4,
-        Outcome::Ended(Ending::Stopped(Why::Memory)) => 7,
-        Outcome::Ended(Ending::Stopped(Why::Generation)) => 8,
-        _ => 255,
-    })
-}
-
-/// Runs a script over the disk, where a write that lacks a zone waits for a commit or a job.
-pub fn reclaim(
-    alloc: Global,
-    mut disk: MemDisk,
-    orders: &mut Orders,
-    script: &str,
-) -> Result<(MemDisk, Told), Broken> {
-    let Orders { fails, .. } = mem::replace(orders, Orders::none(alloc));
-    if !fails.is_empty() {
-        disk.fail_at(fails);
-    }
-    let (before, reads) = (disk.calls(), disk.read_calls());
-    let script = with_line_feeds(alloc, script)?;
-    let Ran {
-        history,
-        outcome,
-        disk,
-    } = run_reclaiming(alloc, disk, &script)?;
-    let Ok(output) = output_text(alloc, &history, &outcome) else {
-        return Err(Broken::Memory);
-    };
-    let told = Told {
-        output,
-        status: status_of(&outcome),
         before,
         calls: disk.calls().saturating_sub(before),
         reads: disk.read_calls().saturating_sub(reads),

@@ -154,8 +154,6 @@ pub enum Step {
     Order(Order),
     /// Runs a script.
     Run(String),
-    /// Runs a script, where a write that lacks a zone waits for a commit or a job.
-    Reclaim(String),
     /// Runs a command of administration.
     Admin(Vec<String>),
     /// Asks for something.
