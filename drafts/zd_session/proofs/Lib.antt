@@ -1,0 +1,16 @@
+mod PickLaws
+mod StandingLaws
+mod SparedLaws
+mod SparedSteps
+mod HeldLaws
+mod ActorLaws
+mod CountLaws
+mod ReplyLaws
+mod ReadLaws
+mod EdgeStates
+mod GoingLaws
+mod StandLaws
+mod MovedLaws
+mod ServeLaws
+mod ServeReadLaws
+mod ServeWriteLaws

@@ -1,0 +1,12 @@
+//! Sessions: requests of many callers over one volume, one step at a time.
+#![tactic(auto)]
+
+mod actor;
+mod asked;
+mod making;
+mod progress;
+mod serving;
+mod session;
+
+pub use actor::Actor;
+pub use session::Session;
