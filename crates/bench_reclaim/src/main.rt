@@ -2,15 +2,15 @@
 //!
 //! Over the volume in the image file it picks a job so often, or asks so often whether one is due, or stores so many
 //! numbers in an array with one for each chunk, each so many chunks after the one before. Or it writes so many blocks,
-//! each so many blocks after the one before, round and round; a write that finds no zone waits for a commit where a zone
-//! is in limbo, else for a job, and at the end the volume is closed. `bare` writes as many blocks by the bare calls of
-//! the disk, in its conventional zones. It prints how often it did so, and after writes how many writing calls the
-//! volume had made with the last of them.
+//! each so many blocks after the one before, round and round; a write that finds no zone waits for a commit where a
+//! zone is in limbo, else for a job, and at the end the volume is closed. `bare` writes as many blocks one after
+//! another by the bare calls of the disk, in its conventional zones, and flushes after each STEP of them, or never
+//! where that is 0. It prints how often it did so, and after writes to a volume how many writing calls it had made
+//! with the last of them, and how many whole commits.
 #![tactic(auto)]
 
 ghost use Rattle.std.specs.Prelude.{◌≡◌, ◌<◌, false, length, IfOk, IfSome, IsTrue, None, Some, vec_len, ◌↔◌};
 ghost use Rattle.zd_alone.specs.Alone.{IsAtRest};
-ghost use Rattle.zd_jobs.specs.Possible.{IsPossible};
 ghost use Rattle.zd_model.specs.declared.requests.What.TheVariants.{Write};
 
 use std::alloc::{AllocError, Global};
@@ -32,15 +32,20 @@ const BLOCK_SECTORS: u32 = 8;
 /// How often a write waits at most: for three commits and two jobs, and then it is done.
 const TRIES: u32 = 6;
 
-/// What was done: how often, and how many writing calls the volume had made by then.
+/// What was done: how often, and how many writing calls and whole commits the volume had made by then.
 struct Done {
     rounds: u32,
     calls: u64,
+    commits: u64,
 }
 
 /// So often, with no call of a volume.
 fn without_calls(rounds: u32) -> Done {
-    Done { rounds, calls: 0 }
+    Done {
+        rounds,
+        calls: 0,
+        commits: 0,
+    }
 }
 
 /// Writes block `at` of the conventional zones, if there is one, by one call.
@@ -58,8 +63,21 @@ fn write_block(disk: &mut FileDisk<File>, geometry: &Geometry, at: u64, block: &
     disk.write(ZoneNo(zone as u32), start, block).is_ok()
 }
 
-/// Writes so many blocks of the conventional zones by bare calls. The answer is how many were written.
-fn write_bare(disk: &mut FileDisk<File>, writes: u32, stride: u64) -> u32 {
+/// Flushes the disk. Where that fails, nothing is said.
+fn flush_bare(disk: &mut FileDisk<File>)
+    ensures { disk.new.told ≡ disk.old.told }
+{
+    let _flushed = disk.flush();
+}
+
+/// Whether so many of the disk's blocks were written since a flush, where one comes after each so many.
+fn is_flush_due(done: u32, interval: u64) -> bool {
+    interval > 0 && u64::from(done) % interval == 0
+}
+
+/// Writes so many blocks of the conventional zones by bare calls, and flushes after each so many of them. The answer
+/// is how many were written.
+fn write_bare(disk: &mut FileDisk<File>, writes: u32, interval: u64) -> u32 {
     let Ok(geometry) = disk.geometry() else {
         return 0;
     };
@@ -70,8 +88,11 @@ fn write_bare(disk: &mut FileDisk<File>, writes: u32, stride: u64) -> u32 {
     for _ in 0..writes {
         if write_block(disk, &geometry, at, &block) {
             done = done.saturating_add(1);
+            if is_flush_due(done, interval) {
+                flush_bare(disk);
+            }
         }
-        at = next_of(at, stride, blocks);
+        at = next_of(at, 1, blocks);
     }
     done
 }
@@ -172,6 +193,13 @@ fn calls_of<D: ZonedDisk>(volume: &Volume<D>) -> u64 {
     history.get(entries - 1).at
 }
 
+/// Closes a volume that isn't stopped.
+fn close_whole<D: ZonedDisk>(volume: &mut Volume<D>) {
+    if volume.stopped().is_none() {
+        let _closed = close(volume);
+    }
+}
+
 /// Writes so many blocks of a volume, and closes it.
 fn write_volume<D: ZonedDisk>(
     mut volume: Volume<D>,
@@ -183,6 +211,7 @@ fn write_volume<D: ZonedDisk>(
         return without_calls(0);
     }
     let blocks = u64::from(volume.layout().chunks) * u64::from(volume.geometry().zone_blocks());
+    let generation = volume.generation();
     let mut rounds = 0u32;
     let mut at = 0;
     for _ in 0..writes {
@@ -192,10 +221,13 @@ fn write_volume<D: ZonedDisk>(
         at = next_of(at, stride, blocks);
     }
     let calls = calls_of(&volume);
-    if volume.stopped().is_none() {
-        let _closed = close(&mut volume);
+    let commits = volume.generation().saturating_sub(generation);
+    close_whole(&mut volume);
+    Done {
+        rounds,
+        calls,
+        commits,
     }
-    Done { rounds, calls }
 }
 
 /// The next place, round and round among so many.
@@ -308,8 +340,12 @@ fn measured(rt: &HostRuntime) -> Option<Done> {
 fn main(rt: HostRuntime) -> ExitCode {
     match measured(&rt) {
         Some(done) => {
-            let Done { rounds, calls } = done;
-            let _ = println!(rt; "{rounds} rounds, {calls} calls");
+            let Done {
+                rounds,
+                calls,
+                commits,
+            } = done;
+            let _ = println!(rt; "{rounds} rounds, {calls} calls, {commits} commits");
             ExitCode::SUCCESS
         }
         None => ExitCode::from(1),
