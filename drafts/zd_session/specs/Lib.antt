@@ -1,6 +1,0 @@
-pub mod Standings
-pub mod Sessions
-pub mod Serving
-pub mod SessionSteps
-pub mod SessionEnds
-pub mod Moving
