@@ -2,9 +2,10 @@
 
 ghost use Rattle.std.specs.Prelude.{Some};
 
-use crate::fresh::fresh;
-use crate::run::{run, sink, source};
+use crate::run::run;
 use std::test::Fail;
+use test_volumes::texts::{sink, source};
+use test_volumes::volumes::fresh;
 use zd_base::Status;
 use zd_disk::Failed;
 use zd_ports::{MemSink, Sink};
@@ -37,7 +38,7 @@ fn a_sink_that_fails_in_the_middle_has_a_front_of_the_output(rt: HostRuntime) ->
         let (ended, _) = run(
             rt.alloc(),
             &["img", "s"],
-            fresh(&rt)?,
+            fresh(rt.alloc())?,
             &mut source,
             &mut sink,
         )?;

@@ -1,34 +1,16 @@
 //! Runs over disks in image files.
 
-use crate::fresh::{SMALL, set_block};
 use crate::reads::{SIX_READS, SIX_REPORTED};
-use crate::run::{expect, lines, run};
-use std::alloc::{AllocError, Global};
+use crate::run::{expect, run};
 use std::fs;
 use std::fs::File;
 use std::rt::Files;
 use std::test::Fail;
+use test_volumes::files::{HEADER, fresh_file};
+use test_volumes::texts::lines;
 use zd_base::Status;
 use zd_disk::FileDisk;
 use zd_ports::{StdSink, StdSource};
-
-/// The first 20 bytes of an image file: its zones are 6 conventional and 6 sequential ones of 16
-/// blocks.
-pub const HEADER: [u8; 20] = [
-    b'Z', b'D', b'I', b'M', b'A', b'G', b'E', b'1', 16, 0, 0, 0, 6, 0, 0, 0, 6, 0, 0, 0,
-];
-
-/// The file of the volume of the rows, up to the last block of its second set.
-pub fn fresh_file(alloc: Global) -> Result<Vec<u8>, AllocError> {
-    let mut file = HEADER.to_vec(alloc)?;
-    for (own, zone) in [(0, 8192), (16, 73_728)] {
-        file.resize(zone, 0)?;
-        for i in 0..SMALL.meta_blocks {
-            file.extend_from_slice(&set_block(&SMALL, own, i))?;
-        }
-    }
-    Ok(file)
-}
 
 /// Disk, script and report are files, as those of a command are.
 #[test]

@@ -6,13 +6,7 @@
 #![tactic(auto)]
 
 #[cfg(test)]
-mod equal_sets;
-#[cfg(test)]
 mod failures;
-#[cfg(test)]
-mod formatting;
-#[cfg(test)]
-mod fresh;
 #[cfg(test)]
 mod image_file;
 #[cfg(test)]
@@ -23,5 +17,7 @@ mod reads;
 mod refusals;
 #[cfg(test)]
 mod run;
+#[cfg(test)]
+mod values;
 #[cfg(test)]
 mod wide;

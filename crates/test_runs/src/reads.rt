@@ -1,9 +1,10 @@
 //! Reads of a volume that nobody wrote.
 
-use crate::fresh::fresh;
-use crate::run::{run, sink, source};
+use crate::run::run;
 use std::process::Abort;
 use std::test::Fail;
+use test_volumes::texts::{sink, source};
+use test_volumes::volumes::fresh;
 use zd_base::Status;
 use zd_ports::MemSink;
 
@@ -37,7 +38,7 @@ fn run_long(rt: &(impl Abort + AllocGlobal), more: &str) -> Result<(Status, MemS
     let (ended, _) = run(
         rt.alloc(),
         &["img", "s"],
-        fresh(rt)?,
+        fresh(rt.alloc())?,
         &mut source,
         &mut sink,
     )?;

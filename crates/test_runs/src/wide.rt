@@ -1,14 +1,15 @@
 //! Volumes in files whose zones have two bitmap blocks.
 
-use crate::fresh::{NONE, bitmap_of, format, map_block, patterned, put};
 use crate::run::expect;
 use std::alloc::{AllocError, Global};
 use std::fs;
 use std::rt::Files;
 use std::test::Fail;
+use test_volumes::volumes::{NONE, VOLUME, bitmap_of, format, map_block, patterned, put};
+use uuid::Uuid;
 use zd_base::Layout;
 use zd_disk::FileDisk;
-use zd_open::examine;
+use zd_examine::examine;
 
 /// The layout on 4 conventional and 2 sequential zones of 65,536 blocks, with two bitmap blocks a zone.
 const WIDE: Layout = Layout {
@@ -29,15 +30,15 @@ const HEADER: [u8; 20] = [
 fn a_zone_may_have_two_bitmap_blocks(rt: HostRuntime) -> Result<(), Fail> {
     fs::write(&rt, "wide.img", HEADER.as_slice())?;
     let mut disk = FileDisk::at(&rt, "wide.img");
-    format(&rt, &mut disk, &WIDE)?;
-    put(&rt, &mut disk, 0, 1, &map_block(0, 2, NONE))?;
+    format(&mut disk, &WIDE)?;
+    put(&mut disk, 0, 1, &map_block(0, 2, NONE))?;
     let mut bits = [0; 4096];
     bits[4095] = 0x80;
-    put(&rt, &mut disk, 0, 6, &bits)?;
+    put(&mut disk, 0, 6, &bits)?;
     bits[0] = 1;
-    put(&rt, &mut disk, 0, 7, &bits)?;
+    put(&mut disk, 0, 7, &bits)?;
     for (block, seed) in [(32_767, 5), (32_768, 5), (65_535, 6)] {
-        put(&rt, &mut disk, 2, block, &patterned(seed, block))?;
+        put(&mut disk, 2, block, &patterned(seed, block))?;
     }
     assert_eq!(rt; examine(rt.alloc(), &mut disk)?.chosen.set, 0);
     let output = "0 1 0 r 32766 4 data z8,p5x16,z8 @0;\
@@ -63,20 +64,33 @@ fn wide_file(alloc: Global) -> Result<Vec<u8>, AllocError> {
 fn both_bitmap_blocks_of_a_buffered_chunk_count(rt: HostRuntime) -> Result<(), Fail> {
     fs::write(&rt, "buffered.img", wide_file(rt.alloc())?.as_slice())?;
     let mut disk = FileDisk::at(&rt, "buffered.img");
-    format(&rt, &mut disk, &WIDE)?;
-    put(&rt, &mut disk, 0, 1, &map_block(0, 4, 2))?;
+    format(&mut disk, &WIDE)?;
+    put(&mut disk, 0, 1, &map_block(0, 4, 2))?;
     let mut last = [0; 4096];
     last[4095] = 0x80;
     for (block, bits) in [(10, &last), (11, &bitmap_of(1)), (7, &bitmap_of(2))] {
-        put(&rt, &mut disk, 0, block, bits)?;
+        put(&mut disk, 0, block, bits)?;
     }
     for (zone, block, seed) in [(4, 32_767, 5), (4, 32_768, 5), (2, 32_769, 6)] {
-        put(&rt, &mut disk, zone, block, &patterned(seed, block))?;
+        put(&mut disk, zone, block, &patterned(seed, block))?;
     }
     let output = "0 1 0 r 32766 5 data z8,p5x16,p6x8,z8 @0;end 0 ok;";
     let mut disk = expect(&rt, disk, "r 0 32766 5;", output, 0)?;
-    put(&rt, &mut disk, 0, 7, &bitmap_of(1))?;
+    put(&mut disk, 0, 7, &bitmap_of(1))?;
     expect(&rt, disk, "", "end 3 volume bits 2 32768;", 3)?;
     rt.remove_file("buffered.img")?;
+    Ok(())
+}
+
+#[test]
+fn a_formatted_volume_of_such_zones_reads_as_zeros(rt: HostRuntime) -> Result<(), Fail> {
+    fs::write(&rt, "formatted.img", HEADER.as_slice())?;
+    let mut disk = FileDisk::at(&rt, "formatted.img");
+    let volume = Uuid::from_bytes(VOLUME);
+    let layout = zd_format::format(rt.alloc(), &mut disk, 2, [0; 32], volume)?;
+    assert_eq!(rt; layout, WIDE);
+    let output = "0 1 0 r 131071 1 data z8 @0;end 0 ok;";
+    expect(&rt, disk, "r 0 131071 1;", output, 0)?;
+    rt.remove_file("formatted.img")?;
     Ok(())
 }

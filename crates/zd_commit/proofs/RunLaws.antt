@@ -12,7 +12,7 @@ use Rattle.zd_volume.specs.declared.phase.Committed.{Committed}
 use Rattle.zd_volume.specs.declared.phase.Phase.{Phase}
 use Rattle.zd_volume.specs.declared.phase.Phase.TheVariants.{Idle, Log, LogFlush, LogSuper, LogSuperFlush, InPlace, InPlaceFlush, InPlaceSuper, InPlaceSuperFlush}
 use Rattle.zd_volume.specs.Phases.{after_block}
-use Rattle.zd_volume.proofs.CallsLeft.{last_call, one_less}
+use Rattle.zd_volume.proofs.CallsLeft.{dirty_more, dirty_next, last_call, one_less}
 use Rattle.zd_commit.specs.Closed.{IsCommitted, IsInCommit, StopsCommitting}
 
 -- each call of a commit is one writing call
@@ -50,6 +50,15 @@ runs_on dirty InPlaceFlush q after idle = (let no : InPlaceSuper ≡ Idle = sym 
 runs_on dirty InPlaceSuper q after idle = (let no : InPlaceSuperFlush ≡ Idle = sym after ∙ idle in let f : ⊥ = cc in f)
 runs_on dirty InPlaceSuperFlush q after idle = after
 
+-- the only call of a commit is the last
+not_only : (dirty : List Bool) (p q : Phase) → IsLastCall true p dirty → IsPhaseAfter dirty p q → ⊥
+not_only dirty p q last after =
+    let begins = subst (λ (r : Phase). IsPhaseAfter dirty r q) last.0 after in
+    let same = dirty_next dirty 1 begins.0 begins.2 in
+    let more = dirty_more dirty begins.0 begins.2.0 begins.2.3 in
+    let none = last.1 in
+    omega (arith, same, more, none)
+
 -- one call less is left
 pub fewer_left : (mid to : PlainVolume) → IsFixed mid → Advances mid to
     → calls_left to.dirty to.phase + 1 ≡ calls_left mid.dirty mid.phase
@@ -62,6 +71,7 @@ module _ (from : PlainVolume) (u : View) where
   under_way = record {
     rest = refl;
     begun = λ _. refl;
+    only = λ _. refl;
     stays = record { told = λ g t. t; later = omega arith; read_calls = omega arith };
     left = λ small. refl;
   }
@@ -77,6 +87,10 @@ module _ (from : PlainVolume) (u : View) where
           read_calls = (let x = a.read_calls in let y = b.read_calls in omega arith);
         }
 
+    -- where the only call is the last, it isn't made yet
+    only_last : IsLastCall true from.phase from.dirty → IsLastCall true mid.phase mid.dirty
+    only_last last = subst (λ (m : PlainVolume). IsLastCall true m.phase m.dirty) (sym (was.only last)) last
+
     -- A CALL MORE
     pub goes_on : IsFixed mid → Advances mid to → MakesPhaseCall mid.phase mid v w → IsInCommit from to u w
     goes_on fixed step call =
@@ -87,6 +101,7 @@ module _ (from : PlainVolume) (u : View) where
               ∙ ap (λ (n : ℕ). after_phase from to.phase n from.stopped)
               (sym (ap (λ (m : PlainVolume). m.since) step.rest));
           begun = λ idle. absurd (runs_on mid.dirty mid.phase to.phase step.phase idle);
+          only = λ last. absurd (not_only mid.dirty mid.phase to.phase (only_last last) step.phase);
           stays = stays_on one;
           left = λ small.
               let n = one.calls in
@@ -100,6 +115,7 @@ module _ (from : PlainVolume) (u : View) where
     committed ends = record {
       alone = ends.alone;
       idle = λ is. alone_here ends.alone is ends.last;
+      only = λ last. alone_then ends.alone ends.last (only_last last).0;
       limbo = subst (λ (m : PlainVolume). EndsLimbo m.division to.division) was.rest ends.limbo;
       rest = ends.rest
           ∙ ap (λ (m : PlainVolume). after_end m ends.alone [] (replicate (length m.dirty) false) to.named to.division
@@ -116,6 +132,11 @@ module _ (from : PlainVolume) (u : View) where
             let same = was.begun last.0 in
             subst (λ (m : PlainVolume). IsLastCall true m.phase m.dirty) same last
         alone_here false is last = absurd (let f : ⊥ = cc in f)
+
+        alone_then : (alone : Bool) → IsLastCall alone mid.phase mid.dirty → mid.phase ≡ Idle → alone ≡ true
+        alone_then true last idle = refl
+        alone_then false last idle =
+            absurd (let no : InPlaceSuperFlush ≡ Idle = sym last ∙ idle in let f : ⊥ = cc in f)
 
     pub all_made : EndsCommit mid to [] → MakesPhaseCall mid.phase mid v w
         → Made (calls_left from.dirty from.phase) u w

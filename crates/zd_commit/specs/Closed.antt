@@ -18,11 +18,12 @@ abbrev pub HasLimbo : Division → Type 0
 HasLimbo d = (z : ℕ) × (use_at d.zones z ≡ Limbo)
 
 -- A commit has ended: the new tables are the committed ones, nothing is dirty, limbo has ended. The
--- generation is one greater, but where no commit was under way and nothing was dirty (`alone`). All
--- else, the history too, is as it was.
+-- generation is one greater, but just where no commit was under way and nothing was dirty (`alone`).
+-- All else, the history too, is as it was.
 pub record IsCommitted (from to : PlainVolume) : Type 0 where
   pub alone : Bool
   pub idle : alone ≡ true → IsLastCall true from.phase from.dirty
+  pub only : IsLastCall true from.phase from.dirty → alone ≡ true
   pub limbo : EndsLimbo from.division to.division
   pub rest : to ≡ record from {
     phase = Idle;
@@ -49,6 +50,7 @@ StopsCommitting from to Why.Memory = ⊥
 pub record IsInCommit (from to : PlainVolume) (u v : View) : Type 0 where
   pub rest : to ≡ after_phase from to.phase to.since from.stopped
   pub begun : to.phase ≡ Idle → to ≡ from
+  pub only : IsLastCall true from.phase from.dirty → to ≡ from
   pub stays : Stays u v
   pub left : v.calls < 2 ^ 64 - 1 →
       v.calls + calls_left to.dirty to.phase ≡ u.calls + calls_left from.dirty from.phase

@@ -14,4 +14,4 @@ mod when;
 
 pub use closing::close;
 pub use run::{run_commit, step};
-pub use when::due;
+pub use when::{due, has_limbo};

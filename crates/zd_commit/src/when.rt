@@ -11,7 +11,7 @@ use zd_disk::ZonedDisk;
 use zd_state::{Phase, Volume};
 
 /// Whether a zone is in limbo.
-fn has_limbo(alloc: &Alloc) -> bool
+pub fn has_limbo(alloc: &Alloc) -> bool
     ensures { IsTrue result ↔ HasLimbo alloc.now }
 {
     alloc.limbo(Kind::Conventional) > 0 || alloc.limbo(Kind::Sequential) > 0

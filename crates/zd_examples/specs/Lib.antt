@@ -11,3 +11,5 @@ pub mod Tables
 pub mod Choices
 pub mod Images
 pub mod Remains
+pub mod Steps
+pub mod Loops

@@ -11,6 +11,8 @@ pub mod layouts;
 pub mod remains;
 pub mod reports;
 pub mod requests;
+pub mod runs;
 pub mod scripts;
+pub mod steps;
 pub mod stops;
 pub mod tables;

@@ -13,7 +13,7 @@ use Rattle.zd_routes.proofs.GoalLaws.{zones_apart}
 use Rattle.zd_jobs.specs.Remaps.{leaving}
 
 -- one that isn't none is some
-there_is : (o : Option ℕ) → o ≢ None → (y : ℕ) × (o ≡ Some y)
+pub there_is : (o : Option ℕ) → o ≢ None → (y : ℕ) × (o ≡ Some y)
 there_is o some = elim (cases_place o) [ inl none ↦ absurd (some none) | inr at ↦ at ]
 
 -- what is given back is a zone of the chunk

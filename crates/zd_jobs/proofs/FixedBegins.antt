@@ -1,6 +1,6 @@
 -- WHAT IS TRUE OF A VOLUME'S OWN VALUES stays true where a job begins, with a reset of its target or without one.
 use Rattle.std.proofs.Common.{◌≡◌, ℕ, ◌≤◌, List, length, set, slice_index, get_or-set_other, get_or-set_same}
-use Rattle.std.proofs.Common.{length-set, Option, Some, None, inl, inr, refl, sym, ap, ap₂, ◌∙◌, subst, arith}
+use Rattle.std.proofs.Common.{length-set, IsSomeAnd, Option, Some, None, inl, inr, refl, sym, ap, ap₂, ◌∙◌, subst, arith}
 use Rattle.std.proofs.lemmas.Bool.{cases_lt}
 use Rattle.zd_base.specs.Geometry.{zone_count}
 use Rattle.zd_alloc.specs.Zones.{Division}
@@ -12,20 +12,45 @@ use Rattle.zd_volume.specs.Flights.{tables_now}
 use Rattle.zd_volume.specs.Jobs.{FitsEntry, HasTarget, IsJob, class_by, class_in}
 use Rattle.zd_volume.specs.Sets.{old_tables}
 use Rattle.zd_volume.specs.Uses.{AreCandidates, AreUsed}
-use Rattle.zd_volume.specs.Volumes.{IsFixed, PlainVolume, sets_of}
+use Rattle.zd_volume.specs.Volumes.{IsFixed, PlainVolume, StandInZones, sets_of}
 use Rattle.zd_volume.specs.declared.work.JobKind.{JobKind}
 use Rattle.zd_volume.specs.declared.work.JobKind.TheVariants.{Empty, Move, Append, Merge}
 use Rattle.zd_volume.specs.declared.work.Work.{Work}
 use Rattle.zd_routes.specs.Changes.{IsSpare}
 use Rattle.zd_routes.proofs.ChunkClasses.{candidates_changed}
+use Rattle.zd_routes.proofs.FixedWrites.{in_zones_set}
 use Rattle.zd_routes.proofs.GoalLaws.{free_spare}
 use Rattle.zd_jobs.specs.JobSteps.{BeginsBy, BeginsJob, BeginsWithReset, NeedsReset}
 use Rattle.zd_jobs.specs.Possible.{IsPossible}
 use Rattle.zd_jobs.proofs.BegunUses.{uses_named, uses_taken}
-use Rattle.zd_jobs.proofs.PossibleJobs.{possible_fits}
+use Rattle.zd_jobs.proofs.EndZones.{there_is}
+use Rattle.zd_jobs.proofs.PossibleJobs.{empty_bare, possible_fits}
+
+-- IT BEGINS INSIDE ITS ZONES: an Append at the pointer of a sequential zone
+pub begun_inside : (v : PlainVolume) (w : Work) (d : Division) → IsFixed v → IsPossible v w.job.chunk w.job.kind
+    → BeginsBy v w.job.kind (entry_of (tables_now v) w.job.chunk) w.target w.copied d
+    → w.copied ≤ v.geometry.zone_blocks
+begun_inside v w d fixed possible begins =
+    by w.job.kind (possible_fits v w.job.chunk w.job.kind possible) begins
+  where
+    by : (kind : JobKind) → FitsEntry v.geometry kind (entry_of (tables_now v) w.job.chunk)
+        → BeginsBy v kind (entry_of (tables_now v) w.job.chunk) w.target w.copied d
+        → w.copied ≤ v.geometry.zone_blocks
+    by Empty fits b = (let none = b.1 in omega (arith, none))
+    by Move fits b = (let none = b.2 in omega (arith, none))
+    by Append fits b =
+        let rules = fixed.sets.new_rules.map in
+        let buffer = there_is (entry_of (tables_now v) w.job.chunk).buffer fits.1 in
+        let high : v.geometry.conv ≤ b.0 =
+        subst (λ (o : Option ℕ). IsSomeAnd o (λ z. v.geometry.conv ≤ z)) b.1
+        (rules.buffers w.job.chunk buffer.0 buffer.1).1 in
+        let under = fixed.in_zones.at b.0 high (rules.data_zones w.job.chunk b.0 (inl b.1)).1 in
+        let start = b.3 in
+        omega (arith, under, start)
+    by Merge fits b = (let none = b.1 in omega (arith, none))
 
 module _ (v : PlainVolume) (w : Work) (d : Division) (fixed : IsFixed v) (free : v.job ≡ None)
-    (possible : IsPossible v w.job.chunk w.job.kind) (inside : w.copied ≤ v.geometry.zone_blocks) (read : w.read ≡ 0)
+    (possible : IsPossible v w.job.chunk w.job.kind) (read : w.read ≡ 0)
     (begins : BeginsBy v w.job.kind (entry_of (tables_now v) w.job.chunk) w.target w.copied d) where
   abbrev e : MapEntry
   e = entry_of (tables_now v) w.job.chunk
@@ -107,6 +132,7 @@ module _ (v : PlainVolume) (w : Work) (d : Division) (fixed : IsFixed v) (free :
 
   -- THE JOB, and all values
   module _ (pointers : List ℕ) (since : ℕ) (count : length pointers ≡ zone_count v.geometry)
+      (in_zones : StandInZones v.geometry pointers)
       (pointer : (z : ℕ) → w.target ≡ Some z → v.geometry.conv ≤ z → slice_index pointers z ≡ w.copied)
       (candidates : AreCandidates (sets_of v) pointers v.division.order v.standings) where
     job_begun : IsJob (sets_of v) pointers w
@@ -114,8 +140,10 @@ module _ (v : PlainVolume) (w : Work) (d : Division) (fixed : IsFixed v) (free :
       chunk = possible.there;
       entry = possible_fits v w.job.chunk w.job.kind possible;
       target = target_begun;
-      inside = omega (arith, inside, read);
+      emptied = empty_bare v w.job.chunk w.job.kind possible;
+      inside = (let inside = begun_inside v w d fixed possible begins in omega (arith, inside, read));
       few = omega (arith, read);
+      unread = λ _. read;
       run = λ y x from low high. absurd (let f : ⊥ = omega (arith, low, high, read) in f);
       pointer = pointer;
     }
@@ -128,6 +156,7 @@ module _ (v : PlainVolume) (w : Work) (d : Division) (fixed : IsFixed v) (free :
       uses = uses_begun;
       named = fixed.named;
       pointers = count;
+      in_zones = in_zones;
       candidates = subst (λ (order : List ℕ). AreCandidates (sets_of v) pointers order v.standings)
           (sym order_begun) candidates;
       job = job_begun;
@@ -136,12 +165,11 @@ module _ (v : PlainVolume) (w : Work) (d : Division) (fixed : IsFixed v) (free :
 
 -- A JOB BEGINS without a reset
 pub fixed_begins : (from to : PlainVolume) (w : Work) → IsFixed from → from.job ≡ None
-    → IsPossible from w.job.chunk w.job.kind → w.copied ≤ from.geometry.zone_blocks
-    → (NeedsReset from w.job.kind w.target → ⊥) → BeginsJob from to w.job w → IsFixed to
-fixed_begins from to w fixed free possible inside bare did =
+    → IsPossible from w.job.chunk w.job.kind → BeginsJob from to w.job w → IsFixed to
+fixed_begins from to w fixed free possible did =
     subst IsFixed (sym did.rest)
-    (fixed_begun from w to.division fixed free possible inside did.read did.begins from.pointers from.since
-    fixed.pointers (pointer_begun from w to.division fixed free possible inside did.read did.begins bare)
+    (fixed_begun from w to.division fixed free possible did.read did.begins from.pointers from.since fixed.pointers
+    fixed.in_zones (pointer_begun from w to.division fixed free possible did.read did.begins did.bare)
     fixed.candidates)
 
 -- with a reset
@@ -152,12 +180,9 @@ module _ (from to : PlainVolume) (w : Work) (zone : ℕ) (fixed : IsFixed from) 
       subst (λ (kind : JobKind). BeginsBy from kind (entry_of (tables_now from) w.job.chunk) w.target w.copied
       to.division) (sym did.kind) (zone, did.target, did.copied, did.takes)
 
-  pub none_copied : w.copied ≤ from.geometry.zone_blocks
-  none_copied = (let none = did.copied in omega (arith, none))
-
   pub spare_reset : IsSpare (sets_of from) zone × (from.geometry.conv ≤ zone)
   spare_reset =
-      begun_spare from w to.division fixed free possible none_copied did.read begins_taking
+      begun_spare from w to.division fixed free possible did.read begins_taking
       (zone, did.target, did.copied, did.takes) zone did.target
 
   -- the class of a chunk that has no buffer depends on no pointer
@@ -187,8 +212,9 @@ module _ (from to : PlainVolume) (w : Work) (zone : ℕ) (fixed : IsFixed from) 
   pub fixed_begins_reset : IsFixed to
   fixed_begins_reset =
       subst IsFixed (sym did.rest)
-      (fixed_begun from w to.division fixed free possible none_copied did.read begins_taking (set from.pointers zone 0)
+      (fixed_begun from w to.division fixed free possible did.read begins_taking (set from.pointers zone 0)
       (next_count from.since) (length-set from.pointers zone 0 ∙ fixed.pointers)
+      (in_zones_set from.geometry from.pointers zone 0 fixed.pointers (omega arith) fixed.in_zones)
       (λ z target high.
       ap (λ (y : ℕ). slice_index (set from.pointers zone 0) y) (some_is z zone (sym target ∙ did.target))
       ∙ get_or-set_same from.pointers zone 0 0

@@ -10,7 +10,7 @@ use Rattle.zd_volume.specs.Volumes.{IsFixed, PlainVolume, sets_of}
 use Rattle.zd_volume.specs.declared.work.Work.{Work}
 use Rattle.zd_routes.specs.Routes.{pointers_with}
 use Rattle.zd_routes.proofs.ChunkClasses.{candidates_changed}
-use Rattle.zd_routes.proofs.FixedWrites.{length-pointers_with, pointer_elsewhere}
+use Rattle.zd_routes.proofs.FixedWrites.{in_zones_with, length-pointers_with, pointer_elsewhere}
 use Rattle.zd_routes.proofs.GoalLaws.{own_no_target}
 use Rattle.zd_jobs.specs.JobSteps.{WritesBlocksOn}
 use Rattle.zd_jobs.proofs.WorkLaws.{job_of, target_low, uses_of_job, uses_on}
@@ -48,8 +48,10 @@ module _ (from to : PlainVolume) (w : Work) (zone count : ℕ) (fixed : IsFixed 
     chunk = (job_of from w fixed is).chunk;
     entry = (job_of from w fixed is).entry;
     target = (job_of from w fixed is).target;
+    emptied = (job_of from w fixed is).emptied;
     inside = omega (arith, inside);
     few = omega arith;
+    unread = λ _. refl;
     run = λ y x source low high. absurd (let f : ⊥ = omega (arith, low, high) in f);
     pointer = λ z target high.
         let same : z ≡ zone = some_is z zone (sym target ∙ did.target) in
@@ -75,6 +77,7 @@ module _ (from to : PlainVolume) (w : Work) (zone count : ℕ) (fixed : IsFixed 
     uses = uses_on (sets_of from) w next from.division refl (uses_of_job from w fixed is);
     named = fixed.named;
     pointers = length-pointers_with from.geometry from.pointers zone end ∙ fixed.pointers;
+    in_zones = in_zones_with from.geometry from.pointers zone end fixed.pointers inside fixed.in_zones;
     candidates = candidates_copied;
     job = job_copied;
     room = did.size ∙ fixed.room;

@@ -132,6 +132,7 @@ module _ (from to : PlainVolume) (w : Work) (fixed : IsFixed from) (is : from.jo
     uses = uses_remapped left.0 left.1;
     named = fixed.named;
     pointers = fixed.pointers;
+    in_zones = fixed.in_zones;
     candidates = subst (λ (order : List ℕ). AreCandidates (record s { new = to.fresh }) from.pointers order
         (record from.standings { classes = to.standings.classes })) (sym did.order) candidates_remapped;
     job = tt;

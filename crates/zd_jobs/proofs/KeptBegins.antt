@@ -23,7 +23,7 @@ use Rattle.zd_volume.specs.declared.work.Work.{Work}
 use Rattle.zd_volume.proofs.Still.{kept_still, only_nothing}
 use Rattle.zd_jobs.specs.JobSteps.{BeginsBy, BeginsJob, NeedsReset}
 use Rattle.zd_jobs.specs.Possible.{IsPossible}
-use Rattle.zd_jobs.proofs.FixedBegins.{fixed_begins, pointer_begun}
+use Rattle.zd_jobs.proofs.FixedBegins.{begun_inside, fixed_begins, pointer_begun}
 use Rattle.zd_jobs.proofs.PossibleJobs.{append_bare}
 
 -- a zone is taken whose pointer stands at a block's end
@@ -37,12 +37,12 @@ whole_taken g uses zone i ends whole = record {
 }
 
 -- NOTHING IS COPIED YET: an Append's buffer has no valid block below where it begins
-pub copies_begun : (v : PlainVolume) (w : Work) (d : Division) → IsPossible v w.job.chunk w.job.kind
-    → w.copied ≤ v.geometry.zone_blocks → w.read ≡ 0
+pub copies_begun : (v : PlainVolume) (w : Work) (d : Division) → IsFixed v → IsPossible v w.job.chunk w.job.kind
+    → w.read ≡ 0
     → BeginsBy v w.job.kind (entry_of (tables_now v) w.job.chunk) w.target w.copied d
     → (base : List (List ℕ)) (history : List HistoryEntry) (i : Image)
     → AreCopied (sets_of v) v.buffer w base history i
-copies_begun v w d possible inside read begins base history i = record {
+copies_begun v w d fixed possible read begins base history i = record {
   copied = λ y z x j from to low valid few. absurd (by w.job.kind refl begins y x from low valid);
   read = λ x j low high few. absurd (let f : ⊥ = omega (arith, low, high, read) in f);
 }
@@ -55,12 +55,13 @@ copies_begun v w d possible inside read begins base history i = record {
     by Move is b y x from low valid = (let none = b.2 in omega (arith, low, none))
     by Append is b y x from low valid =
         let start = b.3 in
+        let inside = begun_inside v w d fixed possible begins in
         false≢true (sym (append_bare v w.job.chunk w.job.kind possible b.0 y x is b.1 from
         (omega (arith, low, inside)) (omega (arith, low, start))) ∙ valid)
     by Merge is b y x from low valid = (let none = b.1 in omega (arith, low, none))
 
 module _ (v : PlainVolume) (w : Work) (d : Division) (fixed : IsFixed v) (free : v.job ≡ None)
-    (possible : IsPossible v w.job.chunk w.job.kind) (inside : w.copied ≤ v.geometry.zone_blocks) (read : w.read ≡ 0)
+    (possible : IsPossible v w.job.chunk w.job.kind) (read : w.read ≡ 0)
     (begins : BeginsBy v w.job.kind (entry_of (tables_now v) w.job.chunk) w.target w.copied d)
     (bare : NeedsReset v w.job.kind w.target → ⊥) (base : List (List ℕ)) (r : Image) (now : IsNow v base r) where
   -- a zone that a Move takes holds no sector
@@ -77,7 +78,7 @@ module _ (v : PlainVolume) (w : Work) (d : Division) (fixed : IsFixed v) (free :
           let least = b.3.least.inside in
           let high : v.division.conv ≤ b.0 = b.3.least.of_kind in
           let seq : v.geometry.conv ≤ b.0 = omega (arith, high, conv) in
-          let start = pointer_begun v w d fixed free possible inside read begins bare b.0 b.1 seq in
+          let start = pointer_begun v w d fixed free possible read begins bare b.0 b.1 seq in
           let stands = now.pointers.at b.0 seq (omega (arith, least, count)) in
           let none = b.2 in
           subst (λ (uses : List ZoneUse). IsWhole v.geometry uses r) (sym b.3.zones)
@@ -87,14 +88,14 @@ module _ (v : PlainVolume) (w : Work) (d : Division) (fixed : IsFixed v) (free :
 
 -- THE VOLUME IS KEPT, where the job is that of its work
 kept_begun : (from to : PlainVolume) (w : Work) (opening now : View) → IsKeptVolume from opening now
-    → from.job ≡ None → IsPossible from w.job.chunk w.job.kind → w.copied ≤ from.geometry.zone_blocks
-    → (NeedsReset from w.job.kind w.target → ⊥) → BeginsJob from to w.job w → IsKeptVolume to opening now
-kept_begun from to w opening now was free possible inside bare did =
+    → from.job ≡ None → IsPossible from w.job.chunk w.job.kind → BeginsJob from to w.job w
+    → IsKeptVolume to opening now
+kept_begun from to w opening now was free possible did =
     subst (λ (v : PlainVolume). IsKeptVolume v opening now) (sym did.rest)
     (kept_still from (record from { division = to.division; job = Some w }) opening now now
     (record { geometry = refl; head = refl; since = refl; opening = refl; runs = λ r. r }) (only_nothing now) was
     (record {
-      fixed = subst IsFixed did.rest (fixed_begins from to w was.fixed free possible inside bare did);
+      fixed = subst IsFixed did.rest (fixed_begins from to w was.fixed free possible did);
       by_now = was.counted.by_now;
       faulted = was.faulted;
       calm = was.calm;
@@ -103,19 +104,17 @@ kept_begun from to w opening now was free possible inside bare did =
       reads = λ _ r t is_now. record {
         read = is_now.read;
         pointers = is_now.pointers;
-        whole = whole_begun from w to.division was.fixed free possible inside did.read did.begins bare
+        whole = whole_begun from w to.division was.fixed free possible did.read did.begins did.bare
             (base_at opening.zones) r is_now;
-        copies = copies_begun from w to.division possible inside did.read did.begins (base_at opening.zones)
+        copies = copies_begun from w to.division was.fixed possible did.read did.begins (base_at opening.zones)
             from.history r;
       };
       stops = λ _ r c t may. may;
     }))
 
 pub kept_begins : (from to : PlainVolume) (job : Job) (w : Work) (opening now : View) → IsKeptVolume from opening now
-    → from.job ≡ None → IsPossible from job.chunk job.kind → w.copied ≤ from.geometry.zone_blocks
-    → (NeedsReset from job.kind w.target → ⊥) → BeginsJob from to job w → IsKeptVolume to opening now
-kept_begins from to job w opening now was free possible inside bare did =
+    → from.job ≡ None → IsPossible from job.chunk job.kind → BeginsJob from to job w → IsKeptVolume to opening now
+kept_begins from to job w opening now was free possible did =
     kept_begun from to w opening now was free
-    (subst (λ (j : Job). IsPossible from j.chunk j.kind) (sym did.job_is) possible) inside
-    (subst (λ (j : Job). NeedsReset from j.kind w.target → ⊥) (sym did.job_is) bare)
+    (subst (λ (j : Job). IsPossible from j.chunk j.kind) (sym did.job_is) possible)
     (subst (λ (j : Job). BeginsJob from to j w) (sym did.job_is) did)

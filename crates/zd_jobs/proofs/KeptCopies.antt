@@ -1,14 +1,16 @@
 -- BLOCKS THAT WERE COPIED KEEP A VOLUME, in any phase; so does a copy that failed.
-use Rattle.std.proofs.Common.{◌≡◌, ℕ, ◌+◌, ◌-◌, ◌*◌, ◌<◌, ◌≤◌, false, List, length, Some, None, inl, inr}
+use Rattle.std.proofs.Common.{◌≡◌, ℕ, ◌+◌, ◌-◌, ◌*◌, ◌<◌, ◌≤◌, true, false, List, Option, Some, None, inl, inr}
 use Rattle.std.proofs.Common.{sym, ap, ◌∙◌, subst, arith}
 use Rattle.std.proofs.lemmas.Bool.{cases_lt}
 use Rattle.std.specs.Prelude.{IsTrue}
+use Rattle.zd_base.specs.declared.numbers.Why.{Why}
 use Rattle.zd_model.specs.Image.{Image}
 use Rattle.zd_model.specs.Safe.{base_at, last_at}
 use Rattle.zd_model.specs.Tables.{entry_of, is_valid}
 use Rattle.zd_model.proofs.FaultLaws.{some_is}
 use Rattle.zd_disk.specs.OfGeometry.{IsImageOf}
 use Rattle.zd_disk.specs.Steps.{WriteLeaves, WriteStep, Wrote, count_of}
+use Rattle.zd_disk.specs.Told.{next_count}
 use Rattle.zd_disk.specs.View.{Calls, HasFailed, Turns, View}
 use Rattle.zd_volume.specs.Flights.{tables_now}
 use Rattle.zd_volume.specs.Jobs.{AreCopied, sector_of_chunk, source_of}
@@ -16,17 +18,17 @@ use Rattle.zd_volume.specs.Volumes.{IsFixed, IsKeptVolume, IsNow, PlainVolume, s
 use Rattle.zd_volume.specs.declared.work.Place.TheVariants.{Main}
 use Rattle.zd_volume.specs.declared.work.Work.{Work}
 use Rattle.zd_volume.proofs.Choices.{some_blocks}
-use Rattle.zd_volume.proofs.DataSteps.{kept_copy}
+use Rattle.zd_volume.proofs.DataSteps.{after_data, kept_copy}
+use Rattle.zd_volume.proofs.FixedLaws.{fixed_buffer}
 use Rattle.zd_volume.proofs.InPhases.{both_at}
 use Rattle.zd_volume.proofs.PlaceLaws.{below_wrote, content_wrote}
 use Rattle.zd_routes.specs.Routes.{pointers_with}
 use Rattle.zd_routes.proofs.WritePointers.{pointers_written, whole_written}
-use Rattle.zd_jobs.specs.JobSteps.{WritesBlocksOn, WritesCopy, stopped_call}
+use Rattle.zd_jobs.specs.JobSteps.{FailsCopyWrite, WritesBlocksOn, WritesCopy}
 use Rattle.zd_jobs.proofs.CopyBytes.{copy_blocks, copy_inside, copy_last, sectors_of_blocks}
-use Rattle.zd_jobs.proofs.CopyCalls.{after_copy, kept_copied}
 use Rattle.zd_jobs.proofs.CopyPlaces.{none_new, copy_puts_last}
 use Rattle.zd_jobs.proofs.DataReads.{reads_data}
-use Rattle.zd_jobs.proofs.FixedCopies.{fixed_after_copy}
+use Rattle.zd_jobs.proofs.FixedCopies.{fixed_copied}
 use Rattle.zd_jobs.proofs.WorkLaws.{copies_of, copied_at_pointer, target_far, told_image}
 
 -- ONE IMAGE, after the blocks were written
@@ -71,9 +73,10 @@ module _ (v : PlainVolume) (w : Work) (fixed : IsFixed v) (is : v.job ≡ Some w
     read = λ x k low high few. absurd (let f : ⊥ = omega (arith, low, high) in f);
   }
 
-  now_copied : (to : PlainVolume) → IsNow (after_copy v (pointers_with v.geometry v.pointers zone (w.copied + count))
+  now_copied : (to : PlainVolume) → IsNow (after_data v v.division
+      (pointers_with v.geometry v.pointers zone (w.copied + count))
       (record v.standings { classes = to.standings.classes })
-      (Some (record w { copied = w.copied + count; read = 0 })) to.buffer) base j
+      (Some (record w { copied = w.copied + count; read = 0 })) to.buffer None) base j
   now_copied to =
       let some = some_blocks (sets_of v) fixed.sets in
       let rules = fixed.sets.new_rules.map in
@@ -101,22 +104,39 @@ module _ (v : PlainVolume) (w : Work) (fixed : IsFixed v) (is : v.job ≡ Some w
       }
 
 -- A COPY THAT WAS DONE
+is_copied : (from to : PlainVolume) (w : Work) (zone count : ℕ) → from.stopped ≡ None
+    → WritesBlocksOn from to w zone count
+    → after_data from from.division (pointers_with from.geometry from.pointers zone (w.copied + count))
+    (record from.standings { classes = to.standings.classes })
+    (Some (record w { copied = w.copied + count; read = 0 })) to.buffer None ≡ to
+is_copied from to w zone count runs did =
+    ap (λ (stopped : Option Why). record from {
+      job = Some (record w { copied = w.copied + count; read = 0 });
+      pointers = pointers_with from.geometry from.pointers zone (w.copied + count);
+      standings = record from.standings { classes = to.standings.classes };
+      buffer = to.buffer;
+      since = next_count from.since;
+      stopped = stopped;
+    }) (sym runs)
+    ∙ sym did.rest
+
 pub kept_copy_write : (from to : PlainVolume) (w : Work) (zone count : ℕ) (bytes : List ℕ) (opening u x : View)
     → from.stopped ≡ None → IsKeptVolume from opening u → from.job ≡ Some w → WritesCopy from w count bytes
     → WritesBlocksOn from to w zone count → Turns (Wrote zone (8 * w.copied) bytes) u x
     → Calls (λ r. WriteStep r zone (8 * w.copied) bytes) (λ r j. WriteLeaves r j zone (8 * w.copied) bytes) u x
     → IsKeptVolume to opening x
 kept_copy_write from to w zone count bytes opening u x runs was is copy did turns call =
-    subst (λ (v : PlainVolume). IsKeptVolume v opening x) (sym did.rest)
-    (kept_copied from opening u x runs was (pointers_with from.geometry from.pointers zone (w.copied + count))
+    subst (λ (v : PlainVolume). IsKeptVolume v opening x) (is_copied from to w zone count runs did)
+    (kept_copy from opening u x runs was from.division
+    (pointers_with from.geometry from.pointers zone (w.copied + count))
     (record from.standings { classes = to.standings.classes })
-    (Some (record w { copied = w.copied + count; read = 0 })) to.buffer
-    (fixed_after_copy from to w zone count was.fixed is did
-    (copy_inside from w was.fixed is count bytes copy))
+    (Some (record w { copied = w.copied + count; read = 0 })) to.buffer true
+    (subst IsFixed (sym (is_copied from to w zone count runs did))
+    (fixed_copied from to w zone count was.fixed is did (copy_inside from w was.fixed is count bytes copy)))
     (λ _ r j there then of_r of_j now.
     now_copied from w was.fixed is zone did.target count bytes copy (base_at opening.zones) r j of_r now
     (both_at (Wrote zone (8 * w.copied) bytes) u.zones x.zones turns.reads r j there then) to)
-    (Wrote zone (8 * w.copied) bytes) turns zone (8 * w.copied) bytes
+    (λ no. absurd (let f : ⊥ = cc in f)) (Wrote zone (8 * w.copied) bytes) turns zone (8 * w.copied) bytes
     (target_far from w was.fixed is zone did.target)
     (λ r there now may.
     copy_puts_last from w was.fixed is zone did.target count bytes copy (base_at opening.zones) r
@@ -124,28 +144,19 @@ kept_copy_write from to w zone count bytes opening u x runs was is copy did turn
     (λ r there now high. copied_at_pointer from w was.fixed is (base_at opening.zones) r now zone did.target high) call)
 
 -- ONE THAT FAILED: the job is where it was, and the volume is stopped; what is in the copy buffer doesn't matter then
-pub kept_copy_write_failed : (from : PlainVolume) (w : Work) (zone count : ℕ) (bytes buffer : List ℕ)
-    (R : Image → Image → Type 0) (opening u x : View) → from.stopped ≡ None → IsKeptVolume from opening u
-    → from.job ≡ Some w → w.target ≡ Some zone → WritesCopy from w count bytes
-    → length buffer ≡ length from.buffer → HasFailed u x → Turns R u x
+pub kept_copy_write_failed : (from to : PlainVolume) (w : Work) (zone count : ℕ) (bytes : List ℕ)
+    (opening u x : View) → from.stopped ≡ None → IsKeptVolume from opening u → from.job ≡ Some w
+    → w.target ≡ Some zone → WritesCopy from w count bytes → FailsCopyWrite from to → HasFailed u x
+    → Turns (λ i. WriteStep i zone (8 * w.copied) bytes i) u x
     → Calls (λ r. WriteStep r zone (8 * w.copied) bytes) (λ r j. WriteLeaves r j zone (8 * w.copied) bytes) u x
-    → IsKeptVolume (record (stopped_call from) { buffer = buffer }) opening x
-kept_copy_write_failed from w zone count bytes buffer R opening u x runs was is target copy size failed turns call =
-    kept_copy from opening u x runs was from.division from.pointers from.job buffer false
-    (record {
-      sets = was.fixed.sets;
-      flags = was.fixed.flags;
-      under_way = was.fixed.under_way;
-      uses = was.fixed.uses;
-      named = was.fixed.named;
-      pointers = was.fixed.pointers;
-      candidates = was.fixed.candidates;
-      job = was.fixed.job;
-      room = size ∙ was.fixed.room;
-    })
-    (λ no. absurd (let f : ⊥ = cc in f)) (λ _. failed) R turns zone (8 * w.copied) bytes
-    (target_far from w was.fixed is zone target)
+    → IsKeptVolume to opening x
+kept_copy_write_failed from to w zone count bytes opening u x runs was is target copy did failed turns call =
+    subst (λ (v : PlainVolume). IsKeptVolume v opening x) (sym did.rest)
+    (kept_copy from opening u x runs was from.division from.pointers from.standings from.job to.buffer false
+    (fixed_buffer from was.fixed to.buffer (next_count from.since) (Some Why.Device) did.size)
+    (λ no. absurd (let f : ⊥ = cc in f)) (λ _. failed) (λ i. WriteStep i zone (8 * w.copied) bytes i) turns zone
+    (8 * w.copied) bytes (target_far from w was.fixed is zone target)
     (λ r there now may.
     copy_puts_last from w was.fixed is zone target count bytes copy (base_at opening.zones) r
     (told_image from opening u was r there) now may)
-    (λ r there now high. copied_at_pointer from w was.fixed is (base_at opening.zones) r now zone target high) call
+    (λ r there now high. copied_at_pointer from w was.fixed is (base_at opening.zones) r now zone target high) call)

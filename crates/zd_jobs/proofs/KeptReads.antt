@@ -4,10 +4,11 @@ use Rattle.std.proofs.Common.{◌≡◌, ℕ, ◌+◌, ◌-◌, ◌*◌, ◌<◌
 use Rattle.std.proofs.Common.{inl, inr, refl, sym, ap, ◌∙◌, subst, arith}
 use Rattle.std.proofs.lemmas.Bool.{cases_lt, false≢true}
 use Rattle.std.specs.Prelude.{IsTrue}
+use Rattle.zd_base.specs.declared.numbers.Why.{Why}
 use Rattle.zd_model.specs.Image.{Image}
 use Rattle.zd_model.specs.Safe.{base_at}
 use Rattle.zd_model.specs.Tables.{entry_of, is_valid}
-use Rattle.zd_model.proofs.FaultLaws.{some_is}
+use Rattle.zd_model.proofs.FaultLaws.{none_some, some_is}
 use Rattle.zd_disk.specs.OfGeometry.{IsImageOf}
 use Rattle.zd_disk.specs.Steps.{piece}
 use Rattle.zd_disk.specs.View.{HasFailed, OnlyReads, View}
@@ -16,11 +17,13 @@ use Rattle.zd_sets.proofs.MixLaws.{piece_at}
 use Rattle.zd_volume.specs.Flights.{tables_now}
 use Rattle.zd_volume.specs.Jobs.{AreCopied, IsJob, source_of}
 use Rattle.zd_volume.specs.Volumes.{IsFixed, IsKeptVolume, IsNow, PlainVolume, sets_of}
+use Rattle.zd_volume.specs.declared.work.JobKind.{JobKind}
 use Rattle.zd_volume.specs.declared.work.Work.{Work}
 use Rattle.zd_volume.proofs.DropUses.{source_named}
+use Rattle.zd_volume.proofs.FaultEntries.{faults_failed}
+use Rattle.zd_volume.proofs.FixedLaws.{fixed_buffer}
 use Rattle.zd_volume.proofs.Still.{faulted_later, kept_still}
-use Rattle.zd_routes.proofs.EdgeKeeps.{kept_merge_failed}
-use Rattle.zd_jobs.specs.JobSteps.{ReadsBlocks, stopped_read}
+use Rattle.zd_jobs.specs.JobSteps.{FailsCopyRead, ReadsBlocks}
 use Rattle.zd_jobs.proofs.ChunkSectors.{own_last}
 use Rattle.zd_jobs.proofs.WorkLaws.{copies_of, job_of, run_below, told_image, uses_of_job, uses_on}
 
@@ -44,8 +47,11 @@ module _ (from to : PlainVolume) (w : Work) (at count : ℕ) (told : Option Imag
     chunk = old_job.chunk;
     entry = old_job.entry;
     target = old_job.target;
+    emptied = old_job.emptied;
     inside = did.run.inside;
     few = did.run.few;
+    unread = λ empty. absurd (none_some did.run.zone
+        (sym (ap (λ (k : JobKind). source_of k (entry_of (tables_now from) w.job.chunk)) empty) ∙ did.run.from));
     run = λ y x source low high.
         subst (λ (z : ℕ). is_valid (tables_now from) z x ≡ true) (some_is did.run.zone y (sym did.run.from ∙ source))
         (did.run.valid x low high);
@@ -61,6 +67,7 @@ module _ (from to : PlainVolume) (w : Work) (at count : ℕ) (told : Option Imag
         (uses_of_job from w fixed is);
     named = fixed.named;
     pointers = fixed.pointers;
+    in_zones = fixed.in_zones;
     candidates = fixed.candidates;
     job = job_read;
     room = did.size ∙ fixed.room;
@@ -138,7 +145,21 @@ kept_copy_read from to w at count opening u x was is did io =
       stops = λ _ r c t may. may;
     }))
 
--- THE CALL FAILED: nothing has changed but that the volume is stopped
-pub kept_copy_read_failed : (from : PlainVolume) (opening u x : View) → from.stopped ≡ None
-    → IsKeptVolume from opening u → OnlyReads u x → HasFailed u x → IsKeptVolume (stopped_read from) opening x
-kept_copy_read_failed from opening u x runs was io failed = kept_merge_failed from opening u x runs was io failed
+-- THE CALL FAILED: the volume is stopped, and what is in the copy buffer doesn't matter then
+pub kept_copy_read_failed : (from to : PlainVolume) (opening u x : View) → from.stopped ≡ None
+    → IsKeptVolume from opening u → FailsCopyRead from to → OnlyReads u x → HasFailed u x → IsKeptVolume to opening x
+kept_copy_read_failed from to opening u x runs was did io failed =
+    subst (λ (v : PlainVolume). IsKeptVolume v opening x) (sym did.rest)
+    (kept_still from (record from { buffer = to.buffer; stopped = Some Why.Device }) opening u x
+    (record { geometry = refl; head = refl; since = refl; opening = refl; runs = λ _. runs }) io was
+    (record {
+      fixed = fixed_buffer from was.fixed to.buffer from.since (Some Why.Device) did.size;
+      by_now = was.counted.by_now;
+      faulted = faults_failed from.history from.stopped opening.faults u.faults x.faults was.faulted io.stays.later
+          failed;
+      calm = λ no. absurd (let f : ⊥ = cc in f);
+      legal = λ r t l. l;
+      more = λ k n y m. m;
+      reads = λ no. absurd (let f : ⊥ = cc in f);
+      stops = λ no. absurd (let f : ⊥ = cc in f);
+    }))

@@ -1,6 +1,7 @@
 -- THE END OF A JOB KEEPS A VOLUME: in Idle, where all is copied. It makes no call.
 use Rattle.std.proofs.Common.{◌≡◌, ℕ, false, List, Some, None, refl, sym, subst, arith}
 use Rattle.std.specs.Prelude.{get_or}
+use Rattle.zd_base.specs.declared.steps.StepKind.{StepKind}
 use Rattle.zd_alloc.specs.declared.uses.ZoneUse.{ZoneUse}
 use Rattle.zd_model.specs.Image.{Image}
 use Rattle.zd_model.specs.Safe.{base_at}
@@ -15,16 +16,16 @@ use Rattle.zd_volume.specs.declared.work.Work.{Work}
 use Rattle.zd_volume.proofs.Images.{left_idle}
 use Rattle.zd_volume.proofs.Still.{kept_still, only_nothing}
 use Rattle.zd_routes.proofs.PromotedPlaces.{whole_released}
-use Rattle.zd_jobs.specs.NextSteps.{IsCopied, IsEmptied}
+use Rattle.zd_jobs.specs.NextSteps.{IsCopied, IsNextOf}
 use Rattle.zd_jobs.specs.Remaps.{RemapsChunk, leaving}
 use Rattle.zd_jobs.proofs.EndZones.{leaving_there}
 use Rattle.zd_jobs.proofs.FixedRemaps.{fixed_remapped, given_inside, zones_given}
+use Rattle.zd_jobs.proofs.NextLaws.{remap_next}
 use Rattle.zd_jobs.proofs.RemapPlaces.{below_remapped, remap_serves}
 use Rattle.zd_jobs.proofs.WorkLaws.{job_of}
 
 module _ (from to : PlainVolume) (w : Work) (opening now : View) (was : IsKeptVolume from opening now)
-    (idle : from.phase ≡ Idle) (is : from.job ≡ Some w) (copied : IsCopied from w) (emptied : IsEmptied from w)
-    (did : RemapsChunk from to w) where
+    (idle : from.phase ≡ Idle) (is : from.job ≡ Some w) (copied : IsCopied from w) (did : RemapsChunk from to w) where
   abbrev base : List (List ℕ)
   base = base_at opening.zones
 
@@ -56,8 +57,8 @@ module _ (from to : PlainVolume) (w : Work) (opening now : View) (was : IsKeptVo
           below = λ k i _ _ none. absurd (let f : ⊥ = omega (arith, none) in f);
           from = reads.second.from;
         };
-        below = below_remapped from to w was.fixed is did copied emptied base r now;
-        served = remap_serves from to w was.fixed is did copied emptied base r now;
+        below = below_remapped from to w was.fixed is did copied base r now;
+        served = remap_serves from to w was.fixed is did copied base r now;
       }
 
   now_remapped : (r : Image) → IsNow from (base_at opening.zones) r → IsNow after (base_at opening.zones) r
@@ -95,3 +96,10 @@ module _ (from to : PlainVolume) (w : Work) (opening now : View) (was : IsKeptVo
 
   pub kept_remapped : IsKeptVolume to opening now
   kept_remapped = subst (λ (v : PlainVolume). IsKeptVolume v opening now) (sym did.rest) kept_after
+
+-- THE SAME where that is the job's next step
+pub kept_job_ended : (from to : PlainVolume) (w : Work) (opening now : View) → IsKeptVolume from opening now
+    → from.phase ≡ Idle → from.job ≡ Some w → IsNextOf from w StepKind.Remap → RemapsChunk from to w
+    → IsKeptVolume to opening now
+kept_job_ended from to w opening now was idle is next did =
+    kept_remapped from to w opening now was idle is (remap_next from w next).1 did

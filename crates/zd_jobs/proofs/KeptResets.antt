@@ -25,14 +25,15 @@ use Rattle.zd_volume.specs.declared.work.Job.{Job}
 use Rattle.zd_volume.specs.declared.work.Work.{Work}
 use Rattle.zd_volume.proofs.Choices.{some_blocks}
 use Rattle.zd_volume.proofs.DataSteps.{IsBareZone, NowAfter, after_data, kept_reset}
+use Rattle.zd_volume.proofs.FixedLaws.{fixed_beside}
 use Rattle.zd_volume.proofs.InPhases.{both_at}
 use Rattle.zd_volume.proofs.PlaceLaws.{below_apart, content_apart, named_place}
 use Rattle.zd_routes.specs.Changes.{IsSpare}
 use Rattle.zd_routes.proofs.GoalLaws.{free_spare}
-use Rattle.zd_jobs.specs.JobSteps.{BeginsWithReset, stopped_call}
+use Rattle.zd_jobs.specs.JobSteps.{BeginsWithReset, FailsReset}
 use Rattle.zd_jobs.specs.Possible.{IsPossible}
 use Rattle.zd_jobs.proofs.DataReads.{reads_data}
-use Rattle.zd_jobs.proofs.FixedBegins.{begins_taking, fixed_begins_reset, none_copied, spare_reset}
+use Rattle.zd_jobs.proofs.FixedBegins.{begins_taking, fixed_begins_reset, spare_reset}
 use Rattle.zd_jobs.proofs.KeptBegins.{copies_begun, whole_taken}
 
 -- A ZONE THAT NO TABLE NAMES has no sector and no valid block
@@ -89,7 +90,7 @@ module _ (from to : PlainVolume) (w : Work) (zone : ℕ) (opening u x : View) (r
   base = base_at opening.zones
 
   abbrev after : PlainVolume
-  after = after_data from to.division (set from.pointers zone 0) (Some w) from.buffer None
+  after = after_data from to.division (set from.pointers zone 0) from.standings (Some w) from.buffer None
 
   is_after : after ≡ to
   is_after =
@@ -125,15 +126,14 @@ module _ (from to : PlainVolume) (w : Work) (zone : ℕ) (opening u x : View) (r
         whole = subst (λ (uses : List ZoneUse). IsWhole from.geometry uses j) (sym did.takes.zones)
             (whole_taken from.geometry from.division.zones zone j (ap (λ (n : ℕ). n % 8) reset.zone)
             (whole_reset from.geometry from.division.zones zone r j reset now.whole));
-        copies = copies_begun from w to.division possible
-            (none_copied from to w zone was.fixed free possible did) did.read
+        copies = copies_begun from w to.division was.fixed possible did.read
             (begins_taking from to w zone was.fixed free possible did) base from.history j;
       }
 
   kept_begun_reset : Calls (λ _. ResetStep zone) (λ _ j. ResetLeaves j zone) u x → IsKeptVolume to opening x
   kept_begun_reset call =
       subst (λ (v : PlainVolume). IsKeptVolume v opening x) is_after
-      (kept_reset from opening u x runs was to.division (set from.pointers zone 0) (Some w) from.buffer true
+      (kept_reset from opening u x runs was to.division (set from.pointers zone 0) from.standings (Some w) from.buffer true
       (subst IsFixed (sym is_after) (fixed_begins_reset from to w zone was.fixed free possible did)) now_reset
       (λ no. absurd (let f : ⊥ = cc in f)) (WasReset zone) turns zone (spare_bare from was.fixed zone spare) call)
 
@@ -148,23 +148,15 @@ kept_begins_reset from to job w zone opening u x runs was free possible did turn
     (subst (λ (j : Job). BeginsWithReset from to j w zone) (sym did.job_is) did) turns call
 
 -- ONE THAT FAILED: the zone isn't taken, and the volume is stopped
-pub kept_reset_failed : (from : PlainVolume) (zone : ℕ) (R : Image → Image → Type 0) (opening u x : View)
-    → from.stopped ≡ None → IsKeptVolume from opening u → IsLeastOf Sequential from.division zone → HasFailed u x
-    → Turns R u x → Calls (λ _. ResetStep zone) (λ _ j. ResetLeaves j zone) u x
-    → IsKeptVolume (stopped_call from) opening x
-kept_reset_failed from zone R opening u x runs was least failed turns call =
-    kept_reset from opening u x runs was from.division from.pointers from.job from.buffer false
-    (record {
-      sets = was.fixed.sets;
-      flags = was.fixed.flags;
-      under_way = was.fixed.under_way;
-      uses = was.fixed.uses;
-      named = was.fixed.named;
-      pointers = was.fixed.pointers;
-      candidates = was.fixed.candidates;
-      job = was.fixed.job;
-      room = was.fixed.room;
-    })
-    (λ no. absurd (let f : ⊥ = cc in f)) (λ _. failed) R turns zone
+pub kept_reset_failed : (from to : PlainVolume) (zone : ℕ) (opening u x : View) → from.stopped ≡ None
+    → IsKeptVolume from opening u → IsLeastOf Sequential from.division zone → FailsReset from to → HasFailed u x
+    → Turns (ResetStep zone) u x → Calls (λ _. ResetStep zone) (λ _ j. ResetLeaves j zone) u x
+    → IsKeptVolume to opening x
+kept_reset_failed from to zone opening u x runs was least did failed turns call =
+    subst (λ (v : PlainVolume). IsKeptVolume v opening x) (sym did)
+    (kept_reset from opening u x runs was from.division from.pointers from.standings from.job from.buffer false
+    (fixed_beside from was.fixed from.phase from.history (next_count from.since) (Some Why.Device)
+    was.fixed.under_way)
+    (λ no. absurd (let f : ⊥ = cc in f)) (λ _. failed) (ResetStep zone) turns zone
     (spare_bare from was.fixed zone
-    (free_spare (sets_of from) from.job from.division was.fixed.uses zone least.inside least.free)) call
+    (free_spare (sets_of from) from.job from.division was.fixed.uses zone least.inside least.free)) call)

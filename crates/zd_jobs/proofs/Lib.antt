@@ -10,8 +10,8 @@ pub mod WorkLaws
 pub mod KeptReads
 pub mod CopyBytes
 pub mod CopyPlaces
+pub mod CallPlaces
 pub mod FixedCopies
-pub mod CopyCalls
 pub mod KeptCopies
 pub mod EndZones
 pub mod RemapTables

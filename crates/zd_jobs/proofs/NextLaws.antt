@@ -94,6 +94,51 @@ module _ (v : PlainVolume) (w : Work) where
   next_unique next other (inr (inr one)) (inr (inr two)) =
       one_copy one.1.0 one.1.1 two.1.0 two.1.1 next other one.1.2 two.1.2 one.1.3 two.1.3
 
+  -- WHAT THE NEXT STEP TELLS: where the job ends all is copied
+  pub remap_next : IsNextOf v w StepKind.Remap → (w.read ≡ 0) × IsCopied v w
+  remap_next (inl read) = absurd (other read.1)
+    where
+      other : StepKind.Remap ≡ StepKind.CopyWrite → ⊥
+      other same = cc
+  remap_next (inr (inl all)) = (all.0, all.1)
+  remap_next (inr (inr run)) = elim run.1.3 [
+    | inl gap ↦ absurd (let same = gap.1 in let f : ⊥ = cc in f)
+    | inr none ↦ absurd (let same = none.1 in let f : ⊥ = cc in f)
+  ]
+
+  -- where a run is read there is no gap before it
+  pub read_next : IsNextOf v w StepKind.CopyRead → (at count : ℕ) → IsNextRun v w at count
+      → (w.read ≡ 0) × (HasGap v w at → ⊥)
+  read_next (inl read) at count run = absurd (let same = read.1 in let f : ⊥ = cc in f)
+  read_next (inr (inl all)) at count run = absurd (let same = all.2 in let f : ⊥ = cc in f)
+  read_next (inr (inr there)) at count run = elim there.1.3 [
+    | inl gap ↦ absurd (let same = gap.1 in let f : ⊥ = cc in f)
+    | inr none ↦ (
+      there.0,
+      λ gap. none.0 (subst (HasGap v w)
+          (one_first at there.1.0 (run_first at count run) (run_first there.1.0 there.1.1 there.1.2)) gap),
+    )
+  ]
+
+  -- where blocks are written they were read, or there is a gap before the run
+  pub write_next : IsNextOf v w StepKind.CopyWrite
+      → (0 < w.read) ⊎ ((w.read ≡ 0) × ((at count : ℕ) × IsNextRun v w at count × HasGap v w at))
+  write_next (inl read) = inl read.0
+  write_next (inr (inl all)) = absurd (let same = all.2 in let f : ⊥ = cc in f)
+  write_next (inr (inr there)) = elim there.1.3 [
+    | inl gap ↦ inr (there.0, (there.1.0, there.1.1, there.1.2, gap.0))
+    | inr none ↦ absurd (let same = none.1 in let f : ⊥ = cc in f)
+  ]
+
+  pub gap_next : IsNextOf v w StepKind.CopyWrite → w.read ≡ 0 → (at count : ℕ) → IsNextRun v w at count
+      → HasGap v w at
+  gap_next next none at count run = elim (write_next next) [
+    | inl read ↦ absurd (let f : ⊥ = omega (arith, read, none) in f)
+    | inr gap ↦
+        subst (HasGap v w)
+        (one_first gap.1.0 at (run_first gap.1.0 gap.1.1 gap.1.2) (run_first at count run)) gap.1.3
+  ]
+
   -- THE RUN from the first block on
   longest_from : (at : ℕ) (left : IsFirstLeft v w at) (fuel count : ℕ) → count + fuel ≡ 32 → 0 < count
       → at + count ≤ v.geometry.zone_blocks

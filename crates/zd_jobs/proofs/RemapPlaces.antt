@@ -21,7 +21,7 @@ use Rattle.zd_volume.proofs.DropPlaces.{place_none, place_same, sector_same}
 use Rattle.zd_volume.proofs.DropTables.{some_or}
 use Rattle.zd_volume.proofs.PlaceLaws.{cases_place}
 use Rattle.zd_routes.proofs.WritePlaces.{place_zone}
-use Rattle.zd_jobs.specs.NextSteps.{IsCopied, IsEmptied}
+use Rattle.zd_jobs.specs.NextSteps.{IsCopied}
 use Rattle.zd_jobs.specs.Remaps.{RemapsChunk, leaving}
 use Rattle.zd_jobs.proofs.ChunkSectors.{as_chunk_sector, own_place}
 use Rattle.zd_jobs.proofs.EndZones.{leaving_source, leaving_there, target_or_leaving, target_own_or_bare}
@@ -33,7 +33,7 @@ either_false true b none = refl
 either_false false b none = none
 
 module _ (from to : PlainVolume) (w : Work) (fixed : IsFixed from) (is : from.job ≡ Some w)
-    (did : RemapsChunk from to w) (copied : IsCopied from w) (emptied : IsEmptied from w) where
+    (did : RemapsChunk from to w) (copied : IsCopied from w) where
   abbrev s : Sets
   s = sets_of from
 
@@ -63,7 +63,7 @@ module _ (from to : PlainVolume) (w : Work) (fixed : IsFixed from) (is : from.jo
       → (source_of w.job.kind (entry_of (tables_now from) w.job.chunk) ≡ Some y) × (x < w.copied)
       × ((z : ℕ) × (w.target ≡ Some z))
   was_copied y x left inside valid = elim (leaving_source s fixed.sets from.pointers w job y left) [
-    | inr empty ↦ absurd (false≢true (sym (emptied y x empty.0 empty.1 inside) ∙ valid))
+    | inr empty ↦ absurd (false≢true (sym (job.emptied y x empty.0 empty.1 inside) ∙ valid))
     | inl source ↦ elim (cases_lt x w.copied) [
       | inl below ↦ (source.0, below, source.1)
       | inr later ↦ absurd (false≢true (sym (copied y x source.0 later inside) ∙ valid))

@@ -1,5 +1,5 @@
 -- The job under way: what is known of it, and of the zones from which and to which it copies.
-use Rattle.std.proofs.Common.{◌≡◌, ℕ, ◌+◌, ◌-◌, ◌*◌, ◌<◌, ◌≤◌, List, Option, Some, None, inl, inr, sym, ap}
+use Rattle.std.proofs.Common.{◌≡◌, ℕ, ◌+◌, ◌-◌, ◌*◌, ◌<◌, ◌≤◌, List, Option, Some, None, inl, inr, refl, sym, ap}
 use Rattle.std.proofs.Common.{◌∙◌, subst, arith}
 use Rattle.std.proofs.lemmas.Bool.{cases_lt}
 use Rattle.zd_base.specs.Geometry.{Shape, zone_count}
@@ -14,7 +14,7 @@ use Rattle.zd_disk.specs.Told.{WhereTold}
 use Rattle.zd_disk.specs.View.{View}
 use Rattle.zd_disk.proofs.ToldLaws.{Some-same}
 use Rattle.zd_volume.specs.Flights.{tables_now}
-use Rattle.zd_volume.specs.Jobs.{AreCopied, HasCopies, HasTarget, IsJob, IsJobOrNone}
+use Rattle.zd_volume.specs.Jobs.{AreCopied, FitsEntry, HasCopies, HasTarget, IsJob, IsJobOrNone}
 use Rattle.zd_volume.specs.Sets.{Sets, old_tables}
 use Rattle.zd_volume.specs.Uses.{AreUsed}
 use Rattle.zd_volume.specs.Volumes.{IsFixed, IsKeptVolume, IsNow, PlainVolume, sets_of}
@@ -24,6 +24,7 @@ use Rattle.zd_volume.specs.declared.work.Work.{Work}
 use Rattle.zd_volume.proofs.DropUses.{source_named}
 use Rattle.zd_volume.proofs.JobLaws.{target_data}
 use Rattle.zd_jobs.specs.NextSteps.{IsNextRun, source}
+use Rattle.zd_jobs.proofs.EndZones.{there_is}
 
 -- zones are used as before beside a job that goes on
 pub uses_on : (s : Sets) (old new : Work) (d : Division) → new.target ≡ old.target → AreUsed s (Some old) d
@@ -72,6 +73,28 @@ module _ (v : PlainVolume) (w : Work) (fixed : IsFixed v) (is : v.job ≡ Some w
           omega (arith, low, same)
       by Append has = (fixed.sets.new_rules.map.data_zones w.job.chunk z (inl (sym has ∙ target))).1
       by Merge has = (fixed.sets.new_rules.map.data_zones w.job.chunk z (inr (sym has ∙ target))).1
+
+  -- there is one but for an Empty, for which nothing is read or copied
+  pub target_there : (w.job.kind ≡ Empty → ⊥) → (z : ℕ) × (w.target ≡ Some z)
+  target_there copies = by w.job.kind refl job_of.entry job_of.target
+    where
+      by : (kind : JobKind) → w.job.kind ≡ kind → FitsEntry v.geometry kind (entry_of (tables_now v) w.job.chunk)
+          → HasTarget v.geometry (old_tables (sets_of v)) (tables_now v) kind (entry_of (tables_now v) w.job.chunk)
+          w.target → (z : ℕ) × (w.target ≡ Some z)
+      by Empty kind fits has = absurd (copies kind)
+      by Move kind fits has = (has.0, has.1)
+      by Append kind fits has = (let zone = there_is (entry_of (tables_now v) w.job.chunk).zone fits.0 in
+          (zone.0, has ∙ zone.1))
+      by Merge kind fits has = (let buffer = there_is (entry_of (tables_now v) w.job.chunk).buffer fits.1 in
+          (buffer.0, has ∙ buffer.1))
+
+  pub target_read : 0 < w.read → (z : ℕ) × (w.target ≡ Some z)
+  target_read read = target_there (λ empty. (let none = job_of.unread empty in omega (arith, read, none)))
+
+  pub target_empty : w.job.kind ≡ Empty → w.target ≡ None
+  target_empty empty =
+      subst (λ (kind : JobKind). HasTarget v.geometry (old_tables (sets_of v)) (tables_now v) kind
+      (entry_of (tables_now v) w.job.chunk) w.target) empty job_of.target
 
   -- THE SOURCE too
   pub source_low : (y : ℕ) → source v w ≡ Some y → y < zone_count v.geometry

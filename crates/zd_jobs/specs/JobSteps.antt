@@ -34,14 +34,15 @@ abbrev pub NeedsReset : PlainVolume → JobKind → Option ℕ → Type 0
 NeedsReset v Move target = (z : ℕ) × (target ≡ Some z) × (0 < slice_index v.pointers z)
 NeedsReset v kind target = ⊥
 
--- A JOB BEGINS without a call of the disk: nothing is copied or read yet
+-- A JOB BEGINS without a call of the disk, where its target needs no reset: nothing is copied or read yet
 pub record BeginsJob (from to : PlainVolume) (job : Job) (w : Work) : Type 0 where
   pub job_is : w.job ≡ job
   pub read : w.read ≡ 0
   pub begins : BeginsBy from job.kind (entry_of (tables_now from) job.chunk) w.target w.copied to.division
+  pub bare : NeedsReset from job.kind w.target → ⊥
   pub rest : to ≡ record from { division = to.division; job = Some w }
 
--- with a reset of its target: the target's pointer is at its start
+-- with a reset of its target, which needs it: the target's pointer is at its start
 pub record BeginsWithReset (from to : PlainVolume) (job : Job) (w : Work) (zone : ℕ) : Type 0 where
   pub job_is : w.job ≡ job
   pub kind : job.kind ≡ Move
@@ -49,6 +50,7 @@ pub record BeginsWithReset (from to : PlainVolume) (job : Job) (w : Work) (zone 
   pub read : w.read ≡ 0
   pub copied : w.copied ≡ 0
   pub takes : TakesLeast Sequential from.division to.division zone
+  pub needs : 0 < slice_index from.pointers zone
   pub rest : to ≡ record from {
     division = to.division;
     pointers = set from.pointers zone 0;
@@ -56,13 +58,23 @@ pub record BeginsWithReset (from to : PlainVolume) (job : Job) (w : Work) (zone 
     since = next_count from.since;
   }
 
--- the call of a job's step failed: nothing has changed but that the volume is stopped, and the count of calls where
--- it was a writing one
-abbrev pub stopped_read : PlainVolume → PlainVolume
-stopped_read v = record v { stopped = Some Why.Device }
+-- THE RESET FAILED: no zone is taken, and nothing has changed but the count of calls and that the volume is stopped
+abbrev pub FailsReset : PlainVolume → PlainVolume → Type 0
+FailsReset from to = to ≡ record from { since = next_count from.since; stopped = Some Why.Device }
 
-abbrev pub stopped_call : PlainVolume → PlainVolume
-stopped_call v = record v { since = next_count v.since; stopped = Some Why.Device }
+-- THE READ FAILED: the job is where it was, and the volume is stopped. What then stands in the copy buffer isn't told
+pub record FailsCopyRead (from to : PlainVolume) : Type 0 where
+  pub size : length to.buffer ≡ length from.buffer
+  pub rest : to ≡ record from { buffer = to.buffer; stopped = Some Why.Device }
+
+-- THE WRITE FAILED: so too, and it counts as a call
+pub record FailsCopyWrite (from to : PlainVolume) : Type 0 where
+  pub size : length to.buffer ≡ length from.buffer
+  pub rest : to ≡ record from {
+    buffer = to.buffer;
+    since = next_count from.since;
+    stopped = Some Why.Device;
+  }
 
 -- THE NEXT RUN WAS READ into the copy buffer, as the disk has it
 pub record ReadsBlocks (from to : PlainVolume) (w : Work) (at count : ℕ) (told : Option Image) : Type 0 where

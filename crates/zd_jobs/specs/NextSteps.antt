@@ -6,7 +6,6 @@ use Rattle.zd_model.specs.Tables.{entry_of, is_valid}
 use Rattle.zd_volume.specs.Flights.{tables_now}
 use Rattle.zd_volume.specs.Jobs.{source_of}
 use Rattle.zd_volume.specs.Volumes.{PlainVolume}
-use Rattle.zd_volume.specs.declared.work.JobKind.TheVariants.{Empty}
 use Rattle.zd_volume.specs.declared.work.Work.{Work}
 
 -- the zone from which a job copies; an Empty copies from none
@@ -17,11 +16,6 @@ source v w = source_of w.job.kind (entry_of (tables_now v) w.job.chunk)
 abbrev pub IsCopied : PlainVolume → Work → Type 0
 IsCopied v w = (y x : ℕ) → source v w ≡ Some y → w.copied ≤ x → x < v.geometry.zone_blocks →
     is_valid (tables_now v) y x ≡ false
-
--- the zone of an Empty has no valid block
-abbrev pub IsEmptied : PlainVolume → Work → Type 0
-IsEmptied v w = (y x : ℕ) → w.job.kind ≡ Empty → (entry_of (tables_now v) w.job.chunk).zone ≡ Some y →
-    x < v.geometry.zone_blocks → is_valid (tables_now v) y x ≡ false
 
 -- of the source's valid blocks that are left, the first and those in a row with it, as many as there are up to 32
 pub record IsNextRun (v : PlainVolume) (w : Work) (at count : ℕ) : Type 0 where

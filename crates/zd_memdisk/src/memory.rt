@@ -17,6 +17,8 @@ ghost use Rattle.zd_memdisk.specs.Calls.{write_call, reset_call};
 ghost use Rattle.zd_memdisk.specs.DiskChoices.{ChoicesAreLeft, EachHasChoices, IsStopOf, IsUnused, RefusesStop};
 ghost use Rattle.zd_memdisk.specs.DiskLaws.{disk_agrees, disk_shaped, disk_leaves, disk_reads};
 
+mod numbers;
+
 use crate::choices::{Choices, StopFault};
 use crate::fails::{DeviceCall, Fail, count_call};
 use crate::recorded::RecordedStore;

@@ -2,7 +2,7 @@
 use Rattle.std.proofs.Common.{◌≡◌, ℕ, zero, suc, ◌<◌, ◌==◌, Bool, true, false, ◌||◌, List, [], ◌∷◌, inl, inr, ap, ◌∙◌, arith}
 use Rattle.std.proofs.lemmas.List.Folds.{list_any-append}
 use Rattle.std.proofs.lemmas.List.FromFn.{get_or-map-range_with_len}
-use Rattle.std.specs.Prelude.{flat_map, get_or, slice_index_or}
+use Rattle.std.specs.Prelude.{flat_map, slice_index_or}
 use Rattle.zd_base.specs.Geometry.{Shape, zone_count}
 use Rattle.zd_model.specs.Faults.{has}
 use Rattle.zd_model.specs.Tables.{NamesZone, Tables, entry_in_map, entry_of, named_zones, zones_of}

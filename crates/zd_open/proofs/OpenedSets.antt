@@ -30,6 +30,7 @@ use Rattle.zd_sets.proofs.MixLaws.{piece_at}
 use Rattle.zd_tables.specs.Rules.{AreBelow}
 use Rattle.zd_tables.specs.Tables.{tables_in}
 use Rattle.zd_volume.specs.Starts.{HoldsTables, OpensAs}
+use Rattle.zd_volume.specs.Volumes.{StandInZones}
 use Rattle.zd_volume.proofs.FixedStart.{same_sets}
 use Rattle.zd_volume.proofs.Images.{length-device}
 
@@ -89,6 +90,16 @@ module _ (v : Volume) (u w : View) (o : IsOpening v u w) (shape : IsShape v.geom
 
   abbrev tables : Tables
   tables = tables_in v.geometry v.chosen.head.layout v.blocks
+
+  -- no pointer is behind its zone's end
+  pub in_zones_opened : StandInZones v.geometry (in_blocks v.pointers.items)
+  in_zones_opened = record {
+    at = λ z conv low.
+        let count = o.usable.count in
+        let here = get_or-map (λ p. rounded_up p 8) v.pointers.items z 0 0 (omega (arith, count, low)) in
+        let within = o.usable.within z in
+        omega (arith, here, within);
+  }
 
   -- AN OPENED DISK is one over which a volume may start
   pub opened_as : OpensAs (same_sets v.geometry v.chosen.head v.blocks) (in_blocks v.pointers.items) w

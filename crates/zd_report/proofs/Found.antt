@@ -3,7 +3,7 @@ use Rattle.std.proofs.Common.{◌≡◌, ℕ, ◌+◌, List, [], ◌∷◌, ◌+
 use Rattle.std.specs.List.{slice_get, flat_map}
 use Rattle.std.proofs.lemmas.List.{flat_map_more}
 
-take_found : {X : Type 0} (xs : List X) (i : ℕ) (x : X) → slice_get xs i ≡ Some x → take (suc i) xs ≡ take i xs ++ x ∷ []
+pub take_found : {X : Type 0} (xs : List X) (i : ℕ) (x : X) → slice_get xs i ≡ Some x → take (suc i) xs ≡ take i xs ++ x ∷ []
 take_found [] i x e = absurd (let f : ⊥ = cc in f)
 take_found (y ∷ ys) zero x e = let same : y ≡ x = cc in ap (λ z. z ∷ []) same
 take_found (y ∷ ys) (suc i) x e = ap (λ l. y ∷ l) (take_found ys i x e)

@@ -5,3 +5,4 @@ pub mod Found
 pub mod Ok
 pub mod Told
 pub mod Slices
+pub mod CountLaws

@@ -41,8 +41,13 @@ module _ (s : Sets) (are : AreSets s) (chunk : ℕ) (entry : MapEntry) (bytes : 
     target = subst (λ (e : MapEntry). HasTarget s.geometry (old_tables s) u w.job.kind e w.target) (sym same)
         (target_kept s.geometry (old_tables s) (new_tables s) u w.job.kind (entry_of (new_tables s) w.job.chunk)
         w.target unnamed job.target);
+    emptied = λ y x kind zone low.
+        let was : (entry_of (new_tables s) w.job.chunk).zone ≡ Some y = sym (ap (λ (e : MapEntry). e.zone) same) ∙ zone in
+        others_kept s are chunk entry bytes may did w.job.chunk y x off (inl was) low
+        ∙ job.emptied y x kind was low;
     inside = job.inside;
     few = job.few;
+    unread = job.unread;
     run = λ y x source low high.
         let inside = job.inside in
         let was : source_of w.job.kind (entry_of (new_tables s) w.job.chunk) ≡ Some y =

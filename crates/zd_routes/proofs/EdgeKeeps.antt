@@ -2,26 +2,14 @@
 use Rattle.std.proofs.Common.{◌≡◌, Some, None, refl}
 use Rattle.zd_base.specs.declared.numbers.Why.{Why}
 use Rattle.zd_disk.specs.View.{HasFailed, OnlyReads, View}
-use Rattle.zd_volume.specs.Volumes.{IsFixed, IsKeptVolume, PlainVolume}
+use Rattle.zd_volume.specs.Volumes.{IsKeptVolume, PlainVolume}
 use Rattle.zd_volume.proofs.FaultEntries.{faults_failed}
+use Rattle.zd_volume.proofs.FixedLaws.{fixed_beside}
 use Rattle.zd_volume.proofs.Still.{kept_still}
 
 module _ (v : PlainVolume) where
   abbrev stopped : PlainVolume
   stopped = record v { stopped = Some Why.Device }
-
-  fixed_stopped : IsFixed v → IsFixed stopped
-  fixed_stopped fixed = record {
-    sets = fixed.sets;
-    flags = fixed.flags;
-    under_way = fixed.under_way;
-    uses = fixed.uses;
-    named = fixed.named;
-    pointers = fixed.pointers;
-    candidates = fixed.candidates;
-    job = fixed.job;
-    room = fixed.room;
-  }
 
   pub kept_merge_failed : (opening u x : View) → v.stopped ≡ None → IsKeptVolume v opening u → OnlyReads u x
       → HasFailed u x → IsKeptVolume (record v { stopped = Some Why.Device }) opening x
@@ -29,7 +17,7 @@ module _ (v : PlainVolume) where
       kept_still v stopped opening u x
       (record { geometry = refl; head = refl; since = refl; opening = refl; runs = λ _. runs }) io was
       (record {
-        fixed = fixed_stopped was.fixed;
+        fixed = fixed_beside v was.fixed v.phase v.history v.since (Some Why.Device) was.fixed.under_way;
         by_now = was.counted.by_now;
         faulted = faults_failed v.history v.stopped opening.faults u.faults x.faults was.faulted io.stays.later failed;
         calm = λ no. absurd (let f : ⊥ = cc in f);

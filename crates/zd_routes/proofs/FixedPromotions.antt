@@ -153,6 +153,7 @@ module _ (from to : PlainVolume) (chunk zone buffer : ℕ) (fixed : IsFixed from
     uses = uses_promoted off;
     named = fixed.named;
     pointers = fixed.pointers;
+    in_zones = fixed.in_zones;
     candidates = subst (λ (order : List ℕ). AreCandidates (record (sets_of from) { new = to.fresh }) from.pointers order
         (record from.standings { classes = to.standings.classes })) (sym did.order) candidates_promoted;
     job = jobs_changed (sets_of from) fixed.sets chunk (record { zone = Some buffer; buffer = None }) to.fresh

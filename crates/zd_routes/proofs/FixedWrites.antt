@@ -1,8 +1,9 @@
 -- WHAT IS TRUE OF A VOLUME'S OWN VALUES stays true after a write, beside a job on another chunk.
-use Rattle.std.proofs.Common.{◌≡◌, ◌≢◌, ℕ, List, length, set, slice_index, get_or-set_other, length-set, inl, inr}
-use Rattle.std.proofs.Common.{refl, sym, ◌∙◌, subst, arith}
+use Rattle.std.proofs.Common.{◌≡◌, ◌≢◌, ℕ, List, length, set, slice_index, get_or-set_other, get_or-set_same}
+use Rattle.std.proofs.Common.{◌≤◌, length-set, inl, inr, refl, sym, ap, ◌∙◌, subst, arith}
+use Rattle.std.proofs.lemmas.Bool.{cases_eq}
 use Rattle.std.specs.Prelude.{Bool, cond, false, nat_lt, true}
-use Rattle.zd_base.specs.Geometry.{Shape}
+use Rattle.zd_base.specs.Geometry.{Shape, zone_count}
 use Rattle.zd_model.specs.Tables.{NamesZone, entry_of}
 use Rattle.zd_model.specs.declared.metadata.MapEntry.{MapEntry}
 use Rattle.zd_model.specs.declared.requests.Piece.{Piece}
@@ -11,12 +12,12 @@ use Rattle.zd_volume.specs.Flights.{tables_now}
 use Rattle.zd_volume.specs.Jobs.{IsJobOrNone, IsTarget}
 use Rattle.zd_volume.specs.Sets.{Sets}
 use Rattle.zd_volume.specs.Uses.{AreCandidates, IsPhase}
-use Rattle.zd_volume.specs.Volumes.{IsFixed, PlainVolume, sets_of}
+use Rattle.zd_volume.specs.Volumes.{IsFixed, PlainVolume, StandInZones, sets_of}
 use Rattle.zd_volume.specs.declared.phase.Phase.{Phase}
 use Rattle.zd_volume.specs.declared.phase.Phase.TheVariants.{Idle}
 use Rattle.zd_volume.specs.declared.work.Place.{Place}
 use Rattle.zd_volume.proofs.DropTables.{flags_marked}
-use Rattle.zd_routes.specs.Routes.{entry_touched, entry_with, pointers_with}
+use Rattle.zd_routes.specs.Routes.{WritesBlocks, entry_touched, entry_with, pointers_with}
 use Rattle.zd_routes.specs.Writes.{WritesPiece, with_write}
 use Rattle.zd_routes.proofs.ChunkClasses.{candidates_put_last}
 use Rattle.zd_routes.proofs.ChunkJobs.{jobs_changed}
@@ -41,8 +42,34 @@ length-pointers_with g pointers zone end = by (nat_lt zone g.conv)
     by true = refl
     by false = length-set pointers zone end
 
+-- THEY STAND IN THEIR ZONES still, where one is set inside its zone
+pub in_zones_set : (g : Shape) (pointers : List ℕ) (zone end : ℕ) → length pointers ≡ zone_count g
+    → end ≤ g.zone_blocks → StandInZones g pointers → StandInZones g (set pointers zone end)
+in_zones_set g pointers zone end count inside was = record {
+  at = λ z conv low. elim (cases_eq z zone) [
+    | inl here ↦
+        let there : slice_index (set pointers zone end) z ≡ end =
+        ap (λ (y : ℕ). slice_index (set pointers zone end) y) here
+        ∙ get_or-set_same pointers zone end 0 (omega (arith, count, low, here)) in
+        omega (arith, there, inside)
+    | inr off ↦
+        let same : slice_index (set pointers zone end) z ≡ slice_index pointers z =
+        get_or-set_other pointers zone z end 0 off in
+        let under = was.at z conv low in
+        omega (arith, same, under)
+  ];
+}
+
+pub in_zones_with : (g : Shape) (pointers : List ℕ) (zone end : ℕ) → length pointers ≡ zone_count g
+    → end ≤ g.zone_blocks → StandInZones g pointers → StandInZones g (pointers_with g pointers zone end)
+in_zones_with g pointers zone end count inside was = by (nat_lt zone g.conv)
+  where
+    by : (low : Bool) → StandInZones g (cond low pointers (set pointers zone end))
+    by true = was
+    by false = in_zones_set g pointers zone end count inside was
+
 module _ (from to : PlainVolume) (p : Piece) (place : Place) (zone : ℕ) (fixed : IsFixed from)
-    (did : WritesPiece from to p place zone) where
+    (is : WritesBlocks (sets_of from) p.what) (did : WritesPiece from to p place zone) where
   abbrev c : ℕ
   c = chunk_touched from.geometry.zone_blocks p.what
 
@@ -105,6 +132,7 @@ module _ (from to : PlainVolume) (p : Piece) (place : Place) (zone : ℕ) (fixed
         did.conv did.order;
     named = fixed.named;
     pointers = length-pointers_with from.geometry from.pointers zone end ∙ fixed.pointers;
+    in_zones = in_zones_with from.geometry from.pointers zone end fixed.pointers is.inside fixed.in_zones;
     candidates = candidates_written;
     job = job_written off;
     room = fixed.room;

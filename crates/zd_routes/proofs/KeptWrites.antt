@@ -22,6 +22,7 @@ use Rattle.zd_volume.specs.declared.work.Place.{Place}
 use Rattle.zd_volume.proofs.DataSteps.{NowAfter, faults_by}
 use Rattle.zd_volume.proofs.DataWrites.{after_write}
 use Rattle.zd_volume.proofs.FaultEntries.{TellsNone, calm_more, faults_none, none_calm}
+use Rattle.zd_volume.proofs.FixedLaws.{fixed_beside}
 use Rattle.zd_volume.proofs.InPhases.{both_at}
 use Rattle.zd_routes.specs.Edges.{IsMerged}
 use Rattle.zd_routes.specs.Routes.{IsRoute, WritesBlocks, pointers_with}
@@ -108,7 +109,7 @@ module _ (from to : PlainVolume) (p : Piece) (place : Place) (zone : ℕ) (bytes
   fixed_after : IsFixed after
   fixed_after =
       subst (λ (w : PlainVolume). IsFixed w) (sym is_after)
-      (fixed_written from to p place zone was.fixed wrote idle off)
+      (fixed_written from to p place zone was.fixed is wrote idle off)
 
   pub kept_written : Calls (λ r. WriteStep r zone (8 * range_first from.geometry.zone_blocks p.what) bytes)
       (λ r j. WriteLeaves r j zone (8 * range_first from.geometry.zone_blocks p.what) bytes) u x
@@ -140,19 +141,6 @@ module _ (from : PlainVolume) (p : Piece) (place : Place) (zone : ℕ) (bytes : 
         stopped = Some Why.Device;
       }) (sym idle)
 
-  fixed_stopped : IsFixed from → IsFixed stopped
-  fixed_stopped fixed = record {
-    sets = fixed.sets;
-    flags = fixed.flags;
-    under_way = tt;
-    uses = fixed.uses;
-    named = fixed.named;
-    pointers = fixed.pointers;
-    candidates = fixed.candidates;
-    job = fixed.job;
-    room = fixed.room;
-  }
-
   pub kept_failed_write : from.stopped ≡ None → IsKeptVolume from opening u → from.phase ≡ Idle
       → WritesBlocks (sets_of from) p.what
       → WhereTold u.zones (λ r. IsMerged p.what (sector_by (sets_of from) (tables_now from) r) bytes)
@@ -164,7 +152,7 @@ module _ (from : PlainVolume) (p : Piece) (place : Place) (zone : ℕ) (bytes : 
   kept_failed_write runs was idle is merged route failed turns call =
       subst (λ (w : PlainVolume). IsKeptVolume w opening x) (is_stopped idle)
       (kept_by_write from p place zone bytes opening u x runs was idle is route merged call Fault (inr refl)
-      from.fresh from.dirty from.division from.pointers from.standings false (fixed_stopped was.fixed)
+      from.fresh from.dirty from.division from.pointers from.standings false (fixed_beside from was.fixed Idle (from.history ++ f ∷ []) (next_count from.since) (Some Why.Device) tt)
       (λ no. absurd (let g : ⊥ = cc in g))
       (λ i. WriteStep i zone (8 * range_first from.geometry.zone_blocks p.what) bytes i) turns
       (faults_write from.history f refl is.writes from.stopped opening.faults u.faults x.faults was.faulted

@@ -57,7 +57,7 @@ moves_both zone other first end t start middle u begins apart one two = record {
 }
 
 -- the bitmaps of two zones stand one after the other
-bitmaps_apart : (g : Shape) (l : Layout) (z y : ℕ) → z ≢ y
+pub bitmaps_apart : (g : Shape) (l : Layout) (z y : ℕ) → z ≢ y
     → (bits_block g l z + per g ≤ bits_block g l y) ⊎ (bits_block g l y + per g ≤ bits_block g l z)
 bitmaps_apart g l z y off = elim (cases_lt z y) [
   | inl before ↦

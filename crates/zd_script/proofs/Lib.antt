@@ -4,3 +4,5 @@ pub mod FieldLaws
 pub mod LineForms
 pub mod RequestLaws
 pub mod PlanLaws
+pub mod GeneratorLaws
+pub mod MadePlans

@@ -25,7 +25,7 @@ AllByRecursion-push : (P : Request → Type 0) (plan : List Request) (r : Reques
 AllByRecursion-push P [] r all h = (h, tt)
 AllByRecursion-push P (q ∷ plan) r all h = (all.0, AllByRecursion-push P plan r all.1 h)
 
-AllByRecursion-map : (P Q : Request → Type 0) → ((r : Request) → P r → Q r) → (plan : List Request) → AllByRecursion P plan → AllByRecursion Q plan
+pub AllByRecursion-map : (P Q : Request → Type 0) → ((r : Request) → P r → Q r) → (plan : List Request) → AllByRecursion P plan → AllByRecursion Q plan
 AllByRecursion-map P Q f [] all = tt
 AllByRecursion-map P Q f (r ∷ plan) all = (f r all.0, AllByRecursion-map P Q f plan all.1)
 

@@ -3,3 +3,4 @@ pub mod Number
 pub mod Line
 pub mod Limits
 pub mod Read
+pub mod Generator

@@ -1,6 +1,6 @@
 //! Scripts that are read and parsed, and bytes that are refused.
 
-use crate::{BadLine, Request, ScriptFault, What, parse, read_all};
+use crate::{BadLine, Request, ScriptFault, What, make, parse, read_all};
 use std::alloc::{AllocError, Global};
 use std::test::Fail;
 use zd_ports::{MemSource, Source};
@@ -328,5 +328,49 @@ fn reading_stops_past_the_last_byte(rt: HostRuntime) -> Result<(), Fail> {
     assert_eq!(rt; read_all(rt.alloc(), &mut source).err(), Some(too_long));
     let mut rest = [0; 8];
     assert_eq!(rt; source.read(&mut rest).ok(), Some(3));
+    Ok(())
+}
+
+fn request(caller: u8, what: What) -> Request {
+    Request { caller, what }
+}
+
+#[test]
+fn a_seed_makes_its_requests(rt: HostRuntime) -> Result<(), Fail> {
+    let wanted = [
+        request(
+            1,
+            What::Write {
+                block: 117,
+                count: 4,
+                seed: 1,
+            },
+        ),
+        request(
+            3,
+            What::Write {
+                block: 1,
+                count: 6,
+                seed: 2,
+            },
+        ),
+        request(
+            0,
+            What::Discard {
+                block: 76,
+                count: 3,
+            },
+        ),
+        request(
+            0,
+            What::Read {
+                block: 124,
+                count: 4,
+            },
+        ),
+    ];
+    let requests: Vec<Request> = make(rt.alloc(), 1, 4, 128)?.into();
+    assert_eq!(rt; requests.as_slice(), wanted.as_slice());
+    assert!(rt; make(rt.alloc(), 1, 0, 128)?.is_empty());
     Ok(())
 }

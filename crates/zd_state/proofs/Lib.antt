@@ -11,3 +11,9 @@ pub mod MapSteps
 pub mod WriteSteps
 pub mod PromotionSteps
 pub mod ClosedLaws
+pub mod NextRuns
+pub mod JobStarts
+pub mod CopySteps
+pub mod JoinSteps
+pub mod RemapBits
+pub mod RemapSteps

@@ -15,7 +15,7 @@ use Rattle.zd_tables.specs.Held.{HeldTables, tables_held}
 use Rattle.zd_tables.specs.Rules.{FollowRules}
 use Rattle.zd_volume.specs.Starts.{OpensAs}
 use Rattle.zd_volume.specs.Uses.{AreCandidates}
-use Rattle.zd_volume.specs.Volumes.{IsKeptVolume, PlainVolume, sets_of}
+use Rattle.zd_volume.specs.Volumes.{IsKeptVolume, PlainVolume, StandInZones, sets_of}
 use Rattle.zd_volume.specs.declared.phase.Phase.TheVariants.{Idle}
 use Rattle.zd_volume.proofs.FixedStart.{fixed_start, same_sets}
 use Rattle.zd_volume.proofs.Starting.{kept_start}
@@ -75,13 +75,13 @@ module _ (g : Shape) (head : Super) (bytes pointers : List ℕ) (h : HeldTables)
 pub kept_started : (g : Shape) (head : Super) (bytes pointers : List ℕ) (v : PlainVolume) (d : View)
     → IsStarted g head bytes pointers v → d.told ≡ Some g → IsShape g → Fits g head.layout
     → HasBlock head → length bytes ≡ 4096 * used_blocks g head.layout → FollowRules g head.layout bytes
-    → length pointers ≡ zone_count g → OpensAs (same_sets g head bytes) pointers d → IsKeptVolume v d d
-kept_started g head bytes pointers v d is tells shape fits sizes size rules count opens =
+    → length pointers ≡ zone_count g → StandInZones g pointers → OpensAs (same_sets g head bytes) pointers d → IsKeptVolume v d d
+kept_started g head bytes pointers v d is tells shape fits sizes size rules count in_zones opens =
     subst (λ (w : PlainVolume). IsKeptVolume w d d) (sym is.plain)
     (kept_start g head bytes (replicate (used_blocks g head.layout) false) v.division v.named pointers v.standings
     v.buffer d tells
     (fixed_start g head bytes v.division v.named pointers v.standings v.buffer shape fits sizes rules size is.division
-    is.named count
+    is.named count in_zones
     (subst (λ (w : PlainVolume). AreCandidates (sets_of w) pointers v.division.order v.standings) is.plain
     is.candidates)
     is.buffer)

@@ -16,7 +16,7 @@ ghost use Rattle.zd_volume.specs.Volumes.{sets_of};
 use crate::marks::count_dirty;
 use crate::state::VolumeState;
 use crate::volume::Volume;
-use zd_alloc::Alloc;
+use zd_alloc::{Alloc, Candidates};
 use zd_base::{BLOCK, ChunkNo, Geometry, Layout, Why, ZoneNo};
 use zd_disk::ZonedDisk;
 use zd_model::{MapEntry, Super};
@@ -33,7 +33,7 @@ impl VolumeState {
     }
 
     /// The pointer of a zone in blocks.
-    fn pointer(&self, zone: ZoneNo) -> u32
+    pub(crate) fn pointer(&self, zone: ZoneNo) -> u32
         requires { zone < length self.now.plain.pointers }
         ensures { result ≡ slice_index self.now.plain.pointers zone }
     {
@@ -94,6 +94,13 @@ impl<D: ZonedDisk> Volume<D> {
         ensures { result.now ≡ self.now.plain.division }
     {
         &self.state.alloc
+    }
+
+    /// What each chunk can be picked for, and which chunk of a class was written least recently.
+    pub fn candidates(&self) -> &Candidates
+        ensures { result.now ≡ self.now.plain.standings }
+    {
+        &self.state.candidates
     }
 
     /// How many blocks of the set are dirty. It goes through the flags of all of them.

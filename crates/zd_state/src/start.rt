@@ -8,6 +8,7 @@ ghost use Rattle.zd_state.specs.Started.{ClassesBelow, FlagNamedBelow, IsStarted
 ghost use Rattle.zd_tables.specs.Held.{tables_held};
 ghost use Rattle.zd_tables.specs.Rules.{FollowRules};
 ghost use Rattle.zd_volume.specs.Starts.{OpensAs};
+ghost use Rattle.zd_volume.specs.Volumes.{StandInZones};
 
 use crate::classes::class_of_chunk;
 use crate::state::VolumeState;
@@ -167,6 +168,7 @@ impl<D: ZonedDisk> Volume<D> {
         requires size { length blocks ≡ 4096 * used_blocks geometry chosen.head.layout }
         requires rules { FollowRules geometry chosen.head.layout blocks }
         requires pointers { length pointers.items ≡ zone_count geometry }
+        requires in_zones { StandInZones geometry pointers.items }
         requires disk { OpensAs (record { geometry = geometry; head = chosen.head; old = blocks; new = blocks })
             pointers.items (D.view disk) }
         ensures ok { IfOk result (λ v. IsStartedVolume geometry chosen.head blocks pointers.items disk v) }

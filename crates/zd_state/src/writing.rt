@@ -205,7 +205,7 @@ impl VolumeState {
     }
 
     /// A write into a zone ended before this block.
-    fn move_pointer(&mut self, zone: ZoneNo, end: u32)
+    pub(crate) fn move_pointer(&mut self, zone: ZoneNo, end: u32)
         requires zone { zone < length self.old.plain.pointers }
         ensures { self.new ≡ record self.old {
           plain = record self.old.plain {

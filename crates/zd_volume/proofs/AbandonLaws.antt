@@ -166,6 +166,7 @@ kept_abandon from to opening now was did =
         uses = used_abandoned from to did was.fixed.job was.fixed.uses;
         named = was.fixed.named;
         pointers = was.fixed.pointers;
+        in_zones = was.fixed.in_zones;
         candidates = subst
             (λ (order : List ℕ). AreCandidates (sets_of from) from.pointers order from.standings)
             (sym did.order) was.fixed.candidates;

@@ -242,6 +242,7 @@ module _ (v : PlainVolume) (opening d : View) (was : IsKeptVolume v opening d) (
           uses = are_used;
           named = record { size = ends.names.size; each = ends.names.each };
           pointers = was.fixed.pointers;
+          in_zones = was.fixed.in_zones;
           candidates = candidates;
           job = job_ended (sets_of v) (end_generation alone v.head.generation) v.pointers v.job was.fixed.job;
           room = was.fixed.room;

@@ -11,6 +11,7 @@ use Rattle.zd_volume.specs.Uses.{IsPhase}
 use Rattle.zd_volume.specs.Volumes.{IsKeptVolume, PlainVolume, sets_of}
 use Rattle.zd_volume.specs.declared.phase.Phase.{Phase}
 use Rattle.zd_volume.specs.declared.phase.Phase.TheVariants.{Idle, Log}
+use Rattle.zd_volume.proofs.FixedLaws.{fixed_beside}
 use Rattle.zd_volume.proofs.FlushPhases.{few_dirty, onward}
 use Rattle.zd_volume.proofs.Still.{kept_still, only_nothing}
 
@@ -22,17 +23,7 @@ kept_begin v m opening d was idle is small =
     kept_still v (record v { phase = Log m }) opening d d
     (record { geometry = refl; head = refl; since = refl; opening = refl; runs = λ r. r }) (only_nothing d) was
     (record {
-      fixed = record {
-        sets = was.fixed.sets;
-        flags = was.fixed.flags;
-        under_way = (omega (arith, is.1), is.0, is.3, small);
-        uses = was.fixed.uses;
-        named = was.fixed.named;
-        pointers = was.fixed.pointers;
-        candidates = was.fixed.candidates;
-        job = was.fixed.job;
-        room = was.fixed.room;
-      };
+      fixed = fixed_beside v was.fixed (Log m) v.history v.since v.stopped (omega (arith, is.1), is.0, is.3, small);
       by_now = was.counted.by_now;
       faulted = was.faulted;
       calm = was.calm;
@@ -73,17 +64,7 @@ pub kept_stopped : (v : PlainVolume) (opening d : View) → IsKeptVolume v openi
 kept_stopped v opening d was = record {
   tells = was.tells;
   shows = was.shows;
-  fixed = record {
-    sets = was.fixed.sets;
-    flags = was.fixed.flags;
-    under_way = was.fixed.under_way;
-    uses = was.fixed.uses;
-    named = was.fixed.named;
-    pointers = was.fixed.pointers;
-    candidates = was.fixed.candidates;
-    job = was.fixed.job;
-    room = was.fixed.room;
-  };
+  fixed = fixed_beside v was.fixed v.phase v.history v.since (Some Why.Generation) was.fixed.under_way;
   counted = record {
     few = was.counted.few;
     later = was.counted.later;
@@ -111,17 +92,8 @@ pub kept_unphased : (v : PlainVolume) (p : Phase) (why : Why) (opening d : View)
 kept_unphased v p why opening d idle halted was = record {
   tells = was.tells;
   shows = was.shows;
-  fixed = record {
-    sets = was.fixed.sets;
-    flags = was.fixed.flags;
-    under_way = subst (λ (q : Phase). IsPhase q v.dirty v.head.generation) (sym idle) tt;
-    uses = was.fixed.uses;
-    named = was.fixed.named;
-    pointers = was.fixed.pointers;
-    candidates = was.fixed.candidates;
-    job = was.fixed.job;
-    room = was.fixed.room;
-  };
+  fixed = fixed_beside v was.fixed p v.history v.since v.stopped
+      (subst (λ (q : Phase). IsPhase q v.dirty v.head.generation) (sym idle) tt);
   counted = record {
     few = was.counted.few;
     later = was.counted.later;

@@ -5,6 +5,7 @@ use Rattle.std.specs.Prelude.{IsTrue}
 use Rattle.zd_base.specs.Geometry.{Shape}
 use Rattle.zd_base.specs.Layout.{first_data_zone}
 use Rattle.zd_base.specs.declared.numbers.Why.{Why}
+use Rattle.zd_alloc.specs.Candidates.{Standings}
 use Rattle.zd_alloc.specs.Zones.{Division}
 use Rattle.zd_model.specs.Image.{Image}
 use Rattle.zd_model.specs.Places.{spot, zone_at}
@@ -43,11 +44,12 @@ faults_by v opening d e true runs was more failed =
 faults_by v opening d e false runs was more failed =
     faults_failed v.history v.stopped opening.faults d.faults e.faults was.faulted more (failed refl)
 
--- tables, history and phase stay
-abbrev pub after_data : PlainVolume → Division → List ℕ → Option Work → List ℕ → Option Why → PlainVolume
-after_data v division pointers job buffer stopped = record v {
+-- tables, history and phase stay; a copy may give its chunk another class
+abbrev pub after_data : PlainVolume → Division → List ℕ → Standings → Option Work → List ℕ → Option Why → PlainVolume
+after_data v division pointers standings job buffer stopped = record v {
   division = division;
   pointers = pointers;
+  standings = standings;
   job = job;
   buffer = buffer;
   since = next_count v.since;
@@ -79,9 +81,9 @@ NowAfter v w base done d e = done ≡ true → (r j : Image) → d.zones ≡ Som
     → IsImageOf v.geometry r → IsImageOf v.geometry j → IsNow v base r → IsNow w base j
 
 module _ (v : PlainVolume) (opening d e : View) (runs : v.stopped ≡ None) (was : IsKeptVolume v opening d)
-    (division : Division) (pointers : List ℕ) (job : Option Work) (buffer : List ℕ) (done : Bool)
-    (fixed : IsFixed (after_data v division pointers job buffer (stopped_by done)))
-    (now : NowAfter v (after_data v division pointers job buffer (stopped_by done)) (base_at opening.zones) done d e)
+    (division : Division) (pointers : List ℕ) (standings : Standings) (job : Option Work) (buffer : List ℕ) (done : Bool)
+    (fixed : IsFixed (after_data v division pointers standings job buffer (stopped_by done)))
+    (now : NowAfter v (after_data v division pointers standings job buffer (stopped_by done)) (base_at opening.zones) done d e)
     (failed : done ≡ false → HasFailed d e)
     (R : Image → Image → Type 0) (turns : Turns R d e) where
   -- A COPY, done or cut short
@@ -90,9 +92,9 @@ module _ (v : PlainVolume) (opening d e : View) (runs : v.stopped ≡ None) (was
       → PutsLast v (base_at opening.zones) z start bytes)
       → ((r : Image) → d.zones ≡ Some r → IsNow v (base_at opening.zones) r → v.geometry.conv ≤ z → start ≡ r.held z)
       → Calls (λ r. WriteStep r z start bytes) (λ r j. WriteLeaves r j z start bytes) d e
-      → IsKeptVolume (after_data v division pointers job buffer (stopped_by done)) opening e
+      → IsKeptVolume (after_data v division pointers standings job buffer (stopped_by done)) opening e
   kept_copy z start bytes far last pointer call =
-      kept_call v (after_data v division pointers job buffer (stopped_by done)) opening d e
+      kept_call v (after_data v division pointers standings job buffer (stopped_by done)) opening d e
       (λ r. WriteStep r z start bytes) runs was
       (record {
         geometry = refl;
@@ -136,9 +138,9 @@ module _ (v : PlainVolume) (opening d e : View) (runs : v.stopped ≡ None) (was
 
   -- A RESET, done or not
   pub kept_reset : (z : ℕ) → IsBareZone v z → Calls (λ _. ResetStep z) (λ _ j. ResetLeaves j z) d e
-      → IsKeptVolume (after_data v division pointers job buffer (stopped_by done)) opening e
+      → IsKeptVolume (after_data v division pointers standings job buffer (stopped_by done)) opening e
   kept_reset z bare call =
-      kept_call v (after_data v division pointers job buffer (stopped_by done)) opening d e
+      kept_call v (after_data v division pointers standings job buffer (stopped_by done)) opening d e
       (λ r. ResetStep z) runs was
       (record {
         geometry = refl;

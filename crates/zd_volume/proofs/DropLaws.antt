@@ -92,6 +92,7 @@ module _ (v : PlainVolume) (opening now : View) (runs : v.stopped ≡ None) (was
     uses = uses_dropped (sets_of v) was.fixed.sets c first end bytes did v.job v.division was.fixed.uses;
     named = was.fixed.named;
     pointers = was.fixed.pointers;
+    in_zones = was.fixed.in_zones;
     candidates = candidates_dropped (sets_of v) was.fixed.sets c first end bytes did v.pointers v.division.order
         v.standings classes gives was.fixed.candidates;
     job = jobs_dropped (sets_of v) was.fixed.sets c first end bytes did v.job v.pointers off was.fixed.job;

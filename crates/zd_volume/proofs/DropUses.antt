@@ -127,8 +127,13 @@ module _ (s : Sets) (are : AreSets s) (chunk from end : ℕ) (bytes : List ℕ)
     target = subst (λ (e : MapEntry). HasTarget s.geometry (old_tables s) u w.job.kind e w.target) (sym same)
         (target_stays s.geometry (old_tables s) (new_tables s) u w.job.kind (entry_of (new_tables s) w.job.chunk)
         w.target less job.target);
+    emptied = λ y x kind zone low.
+        let was : (entry_of (new_tables s) w.job.chunk).zone ≡ Some y = sym (ap (λ (e : MapEntry). e.zone) same) ∙ zone in
+        others_stay s are chunk from end bytes did w.job.chunk y x off (inl was)
+        ∙ job.emptied y x kind was low;
     inside = job.inside;
     few = job.few;
+    unread = job.unread;
     run = λ y x source low high.
         let was : source_of w.job.kind (entry_of (new_tables s) w.job.chunk) ≡ Some y =
         sym (ap (source_of w.job.kind) same) ∙ source in

@@ -91,8 +91,10 @@ job_ended s generation pointers (Some w) is = record {
   entry = is.entry;
   target = target_ended s.geometry (old_tables s) (new_tables s) w.job.kind (entry_of (new_tables s) w.job.chunk)
       w.target is.target;
+  emptied = is.emptied;
   inside = is.inside;
   few = is.few;
+  unread = is.unread;
   run = is.run;
   pointer = is.pointer;
 }

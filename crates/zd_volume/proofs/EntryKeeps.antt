@@ -1,6 +1,6 @@
 -- A piece that is entered without a writing call keeps a volume: a read with its bytes or with Fault, and a piece
 -- that ends past the device.
-use Rattle.std.proofs.Common.{◌≡◌, ◌≢◌, ℕ, ◌+◌, ◌*◌, ◌/◌, ◌≤◌, Bool, true, false, cond, List, [], ◌∷◌, length, slice_index_or, Option, Some, None, refl, sym, ap, ◌∙◌, arith}
+use Rattle.std.proofs.Common.{◌≡◌, ◌≢◌, ℕ, ◌+◌, ◌*◌, ◌/◌, ◌≤◌, Bool, true, false, cond, List, [], ◌∷◌, ◌++◌, length, slice_index_or, Option, Some, None, refl, sym, ap, ◌∙◌, arith}
 use Rattle.std.proofs.Math.Nat.{mul-le-mul_right}
 use Rattle.std.proofs.lemmas.Nat.{div-add-mod'}
 use Rattle.zd_model.specs.History.{HistoryEntry, IsLegal, entry_after, last_array}
@@ -27,6 +27,7 @@ use Rattle.zd_volume.specs.Sets.{Sets, device_sectors}
 use Rattle.zd_volume.specs.declared.work.Work.{Work}
 use Rattle.zd_volume.specs.Volumes.{IsKeptVolume, PlainVolume, sets_of}
 use Rattle.zd_volume.proofs.FaultEntries.{calm_more, faults_none, faults_read}
+use Rattle.zd_volume.proofs.FixedLaws.{fixed_beside}
 use Rattle.zd_volume.proofs.Images.{left_history}
 use Rattle.zd_volume.proofs.LegalEntries.{legal_plain, legal_read_fault}
 use Rattle.zd_volume.proofs.ServesLaws.{serves_last}
@@ -88,17 +89,7 @@ module _ (v : PlainVolume) (opening u x : View) (runs : v.stopped ≡ None) (io 
         kept_still v (with_entry v p reply) opening u x
         (record { geometry = refl; head = refl; since = refl; opening = refl; runs = λ r. r }) io was
         (record {
-          fixed = record {
-            sets = was.fixed.sets;
-            flags = was.fixed.flags;
-            under_way = was.fixed.under_way;
-            uses = was.fixed.uses;
-            named = was.fixed.named;
-            pointers = was.fixed.pointers;
-            candidates = was.fixed.candidates;
-            job = was.fixed.job;
-            room = was.fixed.room;
-          };
+          fixed = fixed_beside v was.fixed v.phase (v.history ++ e ∷ []) v.since v.stopped was.fixed.under_way;
           by_now = AreBy-push v.since v.since v.history e (omega arith) was.counted.by_now (omega arith);
           faulted = faulted;
           calm = λ r. calm_more v.history (e ∷ []) (was.calm r) (calm, tt);

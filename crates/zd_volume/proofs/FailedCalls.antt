@@ -13,6 +13,7 @@ use Rattle.zd_volume.specs.FaultCounts.{IsFailedFlushAt}
 use Rattle.zd_volume.specs.Volumes.{IsKeptVolume, Known, MakesCall, PlainVolume}
 use Rattle.zd_volume.proofs.FaultEntries.{faults_flushes}
 use Rattle.zd_volume.proofs.FaultStops.{failed_by, failed_hold}
+use Rattle.zd_volume.proofs.FixedLaws.{fixed_beside}
 use Rattle.zd_volume.proofs.InPhases.{by_next}
 use Rattle.zd_volume.proofs.Kept.{kept_call}
 
@@ -35,17 +36,8 @@ pub kept_failed_call : (v : PlainVolume) (entries : List HistoryEntry) (opening 
     → IsKeptVolume (failed_with v entries) opening e
 kept_failed_call v entries opening d e step runs was did rose all legal safe =
     kept_call v (failed_with v entries) opening d e step runs was did (record {
-      fixed = record {
-        sets = was.fixed.sets;
-        flags = was.fixed.flags;
-        under_way = was.fixed.under_way;
-        uses = was.fixed.uses;
-        named = was.fixed.named;
-        pointers = was.fixed.pointers;
-        candidates = was.fixed.candidates;
-        job = was.fixed.job;
-        room = was.fixed.room;
-      };
+      fixed = fixed_beside v was.fixed v.phase (v.history ++ entries) (next_count v.since) (Some Why.Device)
+          was.fixed.under_way;
       by_now = AreBy-append (next_count v.since) v.history entries (by_next v opening d was)
           (failed_by (next_count v.since) entries all);
       generation = λ one g. omega (arith, one, g);

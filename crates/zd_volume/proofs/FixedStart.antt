@@ -19,7 +19,7 @@ use Rattle.zd_volume.specs.Jobs.{IsNamed}
 use Rattle.zd_volume.specs.Sets.{AreSets, Sets}
 use Rattle.zd_volume.specs.Starts.{started}
 use Rattle.zd_volume.specs.Uses.{AreCandidates, AreFlags, AreUsed, FlagNamed}
-use Rattle.zd_volume.specs.Volumes.{IsFixed}
+use Rattle.zd_volume.specs.Volumes.{IsFixed, StandInZones}
 
 -- sets with the same blocks in both
 abbrev pub same_sets : Shape → Super → List ℕ → Sets
@@ -137,10 +137,10 @@ module _ (g : Shape) (head : Super) (bytes : List ℕ) where
       (buffer : List ℕ) → IsShape g → Fits g head.layout → HasBlock head → FollowRules g head.layout bytes
       → length bytes ≡ 4096 * used_blocks g head.layout → IsStart g head.layout named division
       → FlagNamed g (tables_in g head.layout bytes) named → length pointers ≡ zone_count g
-      → AreCandidates (same_sets g head bytes) pointers division.order standings → length buffer ≡ 4096 * 32
+      → StandInZones g pointers → AreCandidates (same_sets g head bytes) pointers division.order standings → length buffer ≡ 4096 * 32
       → IsFixed (started g head bytes (replicate (used_blocks g head.layout) false) division named pointers standings
       buffer)
-  fixed_start division named pointers standings buffer shape fits sizes rules size start flags count candidates room =
+  fixed_start division named pointers standings buffer shape fits sizes rules size start flags count in_zones candidates room =
       record {
         sets = sets_start shape fits sizes rules size;
         flags = flags_start;
@@ -148,6 +148,7 @@ module _ (g : Shape) (head : Super) (bytes : List ℕ) where
         uses = used_start rules division named start flags;
         named = flags;
         pointers = count;
+        in_zones = in_zones;
         candidates = candidates;
         job = tt;
         room = room;

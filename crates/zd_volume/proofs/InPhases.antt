@@ -18,6 +18,7 @@ use Rattle.zd_volume.specs.Uses.{IsPhase}
 use Rattle.zd_volume.specs.Volumes.{HasPointers, IsFixed, IsKeptVolume, IsNow, IsWhole, MayBe, PlainVolume, sets_of}
 use Rattle.zd_volume.specs.declared.phase.Phase.{Phase}
 use Rattle.zd_volume.proofs.Choices.{data_same, sets_same}
+use Rattle.zd_volume.proofs.FixedLaws.{fixed_beside}
 use Rattle.zd_volume.proofs.Images.{left_step, safe_of, stages_stay}
 use Rattle.zd_volume.proofs.JobLaws.{copies_stay}
 use Rattle.zd_volume.proofs.Reading.{read_stays}
@@ -49,17 +50,7 @@ whole_stay g uses z old new conv others w = record {
 module _ (v : PlainVolume) (opening d : View) (was : IsKeptVolume v opening d) where
   pub fixed_in : (q : Phase) (since : ℕ) (stopped : Option Why) → IsPhase q v.dirty v.head.generation
       → IsFixed (after_phase v q since stopped)
-  fixed_in q since stopped phase = record {
-    sets = was.fixed.sets;
-    flags = was.fixed.flags;
-    under_way = phase;
-    uses = was.fixed.uses;
-    named = was.fixed.named;
-    pointers = was.fixed.pointers;
-    candidates = was.fixed.candidates;
-    job = was.fixed.job;
-    room = was.fixed.room;
-  }
+  fixed_in q since stopped phase = fixed_beside v was.fixed q v.history since stopped phase
 
   -- the history stays within the time
   pub by_next : AreBy (next_count v.since) v.history

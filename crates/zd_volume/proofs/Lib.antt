@@ -6,6 +6,7 @@ pub mod Images
 pub mod Reading
 pub mod Kept
 pub mod Still
+pub mod FixedLaws
 pub mod FaultEntries
 pub mod FaultStops
 pub mod JobLaws

@@ -71,15 +71,20 @@ HasTarget g old new Move e target =
 HasTarget g old new Append e target = target ≡ e.zone
 HasTarget g old new Merge e target = target ≡ e.buffer
 
--- The job under way: its chunk and its target, and how far it is. The run that is read is valid in
--- the source; a sequential target is written up to where the job is.
+-- The job under way: its chunk and its target, and how far it is. The zone of an Empty has no valid
+-- block, and nothing is read for it. The run that is read is valid in the source; a sequential target
+-- is written up to where the job is.
 pub record IsJob (s : Sets) (pointers : List ℕ) (w : Work) : Type 0 where
   pub chunk : w.job.chunk < s.head.layout.chunks
   pub entry : FitsEntry s.geometry w.job.kind (entry_of (new_tables s) w.job.chunk)
   pub target : HasTarget s.geometry (old_tables s) (new_tables s) w.job.kind
       (entry_of (new_tables s) w.job.chunk) w.target
+  pub emptied : (y x : ℕ) → w.job.kind ≡ Empty →
+      (entry_of (new_tables s) w.job.chunk).zone ≡ Some y → x < s.geometry.zone_blocks →
+      is_valid (new_tables s) y x ≡ false
   pub inside : w.copied + w.read ≤ s.geometry.zone_blocks
   pub few : w.read ≤ 32
+  pub unread : w.job.kind ≡ Empty → w.read ≡ 0
   pub run : (y x : ℕ) → source_of w.job.kind (entry_of (new_tables s) w.job.chunk) ≡ Some y →
       w.copied ≤ x → x < w.copied + w.read → IsTrue (is_valid (new_tables s) y x)
   pub pointer : (z : ℕ) → w.target ≡ Some z → s.geometry.conv ≤ z →

@@ -55,6 +55,10 @@ pub record PlainVolume : Type 0 where
 abbrev pub sets_of : PlainVolume → Sets
 sets_of v = record { geometry = v.geometry; head = v.head; old = v.committed; new = v.fresh }
 
+-- pointers in blocks stand in their zones: no sequential zone's is behind the zone's end
+pub record StandInZones (g : Shape) (pointers : List ℕ) : Type 0 where
+  pub at : (z : ℕ) → g.conv ≤ z → z < zone_count g → slice_index pointers z ≤ g.zone_blocks
+
 -- what is true of these values alone
 pub record IsFixed (v : PlainVolume) : Type 0 where
   pub sets : AreSets (sets_of v)
@@ -63,6 +67,7 @@ pub record IsFixed (v : PlainVolume) : Type 0 where
   pub uses : AreUsed (sets_of v) v.job v.division
   pub named : FlagNamed v.geometry (old_tables (sets_of v)) v.named
   pub pointers : length v.pointers ≡ zone_count v.geometry
+  pub in_zones : StandInZones v.geometry v.pointers
   pub candidates : AreCandidates (sets_of v) v.pointers v.division.order v.standings
   pub job : IsJobOrNone (sets_of v) v.pointers v.job
   pub room : length v.buffer ≡ 4096 * 32

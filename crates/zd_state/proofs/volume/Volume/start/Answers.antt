@@ -16,4 +16,5 @@ invariant_of-result g c =
     c.sized-head.ensures.value c.in-Ok.ensures)
     c.requires.told c.zone_blocks-zone_blocks.ensures.shape c.requires.fits
     (subst HasBlock c.sized-head.ensures.value c.sized-head.ensures.sizes)
-    c.requires.size c.requires.rules c.requires.pointers c.requires.disk)
+    c.requires.size c.requires.rules c.requires.pointers c.requires.in_zones
+    c.requires.disk)

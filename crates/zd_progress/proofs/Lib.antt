@@ -1,0 +1,14 @@
+pub mod Counts
+pub mod Bounds
+pub mod CommitSpends
+pub mod OnConventional
+pub mod JobSpends
+pub mod FinishSpends
+pub mod LoneLaws
+pub mod Entries
+pub mod PaceLaws
+pub mod WaitLaws
+pub mod AloneLaws
+pub mod MeasureLaws
+pub mod JobEnds
+pub mod Loops

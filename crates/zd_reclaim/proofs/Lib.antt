@@ -1,0 +1,10 @@
+pub mod FreeZones
+pub mod ClassKinds
+pub mod OrderPlaces
+pub mod FirstJobs
+pub mod PossibleHere
+pub mod PickedJobs
+pub mod WorkedSteps
+pub mod PickRows
+pub mod NamedChunks
+pub mod NeverStuck

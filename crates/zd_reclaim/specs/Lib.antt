@@ -1,0 +1,4 @@
+pub mod Picks
+pub mod Due
+pub mod Works
+pub mod ReclaimRows

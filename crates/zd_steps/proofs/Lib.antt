@@ -1,0 +1,12 @@
+pub mod MemberLaws
+pub mod LinkLaws
+pub mod EnterLaws
+pub mod LeastLaws
+pub mod EnteredLaws
+pub mod EligibleLaws
+pub mod FirstLaws
+pub mod ToldLaws
+pub mod ChosenLaws
+pub mod FlushLaws
+pub mod KeptLaws
+pub mod ScriptLaws
