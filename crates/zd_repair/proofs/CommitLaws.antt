@@ -1,16 +1,14 @@
 -- One set committed, in part or whole.
-use Rattle.std.proofs.Common.{◌≡◌, ◌⊎◌, Some, ℕ, ◌+◌, ◌/◌, ◌<◌, ◌≤◌, List, is_some, inl, inr, sym, ap, ◌∙◌, arith}
+use Rattle.std.proofs.Common.{◌≡◌, Some, ℕ, ◌+◌, ◌/◌, ◌<◌, ◌≤◌, List, is_some, inl, inr, sym, ap, ◌∙◌, arith}
 use Rattle.zd_base.specs.Geometry.{Shape}
 use Rattle.zd_base.specs.Layout.{used_blocks}
 use Rattle.zd_base.specs.declared.layout.Layout.{Layout}
 use Rattle.zd_disk.specs.View.{View, Holds, IsDurable, Keeps, Made, MadeOf, Reaches, Turns}
-use Rattle.zd_disk.proofs.ViewLaws.{keeps_first, keeps_then, reaches_as, reaches_then, read_as, turned, turns_then}
-use Rattle.zd_examine.specs.Opened.{HoldsSet}
-use Rattle.zd_model.specs.Image.{Image, IsImage, block_at, set_block}
+use Rattle.zd_disk.proofs.ViewLaws.{keeps_first, keeps_then, reaches_as, reaches_then, turns_then}
+use Rattle.zd_model.specs.Image.{Image, block_at, set_block}
 use Rattle.zd_model.specs.declared.metadata.Super.{Super}
-use Rattle.zd_sets.specs.Blocks.{blocks_of}
 use Rattle.zd_sets.specs.Calls.{differing_from}
-use Rattle.zd_sets.specs.Equal.{HasSetBlocks, HasSuper, InSet, OnlyAt, head_at}
+use Rattle.zd_sets.specs.Equal.{HasSetBlocks, HasSuper, InSet, OnlyAt}
 use Rattle.zd_sets.specs.Kept.{HasPartOfBlocks}
 use Rattle.zd_sets.proofs.EqualLaws.{first_block, only_more, only_then, same_good, set_still}
 use Rattle.zd_sets.proofs.WayLaws.{blocks_way, outside}

@@ -1,12 +1,11 @@
 -- Both sets committed, one after the other.
-use Rattle.std.proofs.Common.{◌≡◌, ◌⊎◌, Some, Result, Ok, Err, OnOk, ℕ, ◌+◌, ◌/◌, ◌%◌, ◌<◌, ◌≤◌, List, is_some, inl, inr, sym, ap, ◌∙◌, arith}
+use Rattle.std.proofs.Common.{◌≡◌, Some, ℕ, ◌+◌, ◌/◌, ◌%◌, ◌<◌, ◌≤◌, List, is_some, inl, inr, sym, ap, ◌∙◌, arith}
 use Rattle.std.proofs.lemmas.Bool.{cases_lt}
-use Rattle.std.proofs.Math.Nat.{zero-div}
 use Rattle.zd_base.specs.Geometry.{Shape}
 use Rattle.zd_base.specs.Layout.{Fits, set_zones, used_blocks}
 use Rattle.zd_base.specs.declared.layout.Layout.{Layout}
 use Rattle.zd_disk.specs.View.{View, Holds, IsDurable, Keeps, MadeOf, Reaches, Turns}
-use Rattle.zd_disk.proofs.ViewLaws.{IsReadAs, holds_as, reaches_as, reaches_then, read_as, turned, turns_as, turns_then}
+use Rattle.zd_disk.proofs.ViewLaws.{IsReadAs, reaches_as, reaches_then, read_as, turned, turns_as, turns_then}
 use Rattle.zd_examine.specs.Opened.{HoldsSet}
 use Rattle.zd_model.specs.Image.{Image, IsImage, block_at, set_block}
 use Rattle.zd_model.specs.declared.metadata.Super.{Super}

@@ -5,9 +5,8 @@ use Rattle.std.proofs.Math.Nat.{mul-le-mul_left}
 use Rattle.std.proofs.lemmas.List.FromFn.{length-range_with_len}
 use Rattle.std.proofs.lemmas.List.Sums.{count_by-le-length, sum_by-cons, sum_by-le, sum_by-le-sum_by}
 use Rattle.std.specs.List.{range_with_len}
-use Rattle.std.specs.Prelude.{IsTrue}
 use Rattle.zd_base.specs.Geometry.{IsShape, Shape, zone_count}
-use Rattle.zd_model.specs.Tables.{Tables, entry_of, is_valid}
+use Rattle.zd_model.specs.Tables.{Tables, is_valid}
 use Rattle.zd_tables.specs.Changes.{ChangesBits}
 use Rattle.zd_tables.specs.Held.{valid_count}
 use Rattle.zd_repair.proofs.LeftMaps.{passing_as}

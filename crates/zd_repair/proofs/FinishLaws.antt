@@ -1,9 +1,9 @@
 -- What is left of the tables of a set, and its commit.
-use Rattle.std.proofs.Common.{◌≡◌, ℕ, ◌+◌, ◌*◌, ◌<◌, List, Some, is_some, length, slice_index, inl, inr, refl, sym, ap, ap₂, ◌∙◌, subst, arith}
-use Rattle.zd_base.specs.Geometry.{Shape, zone_count}
+use Rattle.std.proofs.Common.{◌≡◌, ℕ, ◌*◌, List, Some, is_some, length, slice_index, inr, refl, sym, ap, ap₂, ◌∙◌, subst, arith}
+use Rattle.zd_base.specs.Geometry.{Shape}
 use Rattle.zd_base.specs.Layout.{used_blocks}
 use Rattle.zd_base.specs.declared.layout.Layout.{Layout}
-use Rattle.zd_disk.specs.View.{View, Holds, IsDurable, Keeps, MadeOf, OnlyReads, Turns}
+use Rattle.zd_disk.specs.View.{View, Holds, Keeps, OnlyReads}
 use Rattle.zd_disk.proofs.SameSteps.{Same-refl}
 use Rattle.zd_disk.proofs.ViewLaws.{holds_as, turns_here}
 use Rattle.zd_examine.specs.Opened.{HoldsBothSets}
@@ -13,9 +13,8 @@ use Rattle.zd_model.specs.declared.metadata.Super.{Super}
 use Rattle.zd_sets.specs.Stages.{next_head}
 use Rattle.zd_sets.specs.declared.choice.Chosen.{Chosen as Choice}
 use Rattle.zd_tables.specs.Held.{HeldTables, SamePlace, tables_held}
-use Rattle.zd_tables.specs.Tables.{tables_in}
 use Rattle.zd_tables.proofs.TableSteps.{tables_there}
-use Rattle.zd_repair.specs.Committed.{HasPartOfCommit, HaveGoodSupers, PutsBothSets, commit_calls}
+use Rattle.zd_repair.specs.Committed.{HasPartOfCommit, HaveGoodSupers}
 use Rattle.zd_repair.specs.Finished.{AreLeftBlocks, HasFinished, IsFinishing}
 use Rattle.zd_repair.specs.Repaired.{CountsDropped, IsLeftOf, IsNothing}
 use Rattle.zd_repair.specs.declared.tables.Repaired.{Repaired}

@@ -1,11 +1,11 @@
 -- Blocks made invalid, one after another.
-use Rattle.std.proofs.Common.{◌≡◌, ◌≢◌, ◌⊎◌, ℕ, ◌+◌, ◌<◌, ◌≤◌, Bool, true, false, List, [], refl, sym, ap, ◌∙◌, subst, inl, inr, arith}
+use Rattle.std.proofs.Common.{◌≡◌, ◌≢◌, ◌⊎◌, ℕ, ◌+◌, ◌<◌, ◌≤◌, Bool, true, false, List, [], refl, sym, ap, ◌∙◌, inl, inr, arith}
 use Rattle.std.proofs.lemmas.Bool.{cases_lt, false≢true}
 use Rattle.std.proofs.lemmas.List.FromFn.{get_or-map-range_with_len}
 use Rattle.zd_base.specs.Geometry.{Shape, zone_count}
 use Rattle.zd_base.specs.declared.layout.Layout.{Layout}
 use Rattle.zd_bits.specs.Bits.{IsBitRun}
-use Rattle.zd_model.specs.Tables.{Tables, entry_of, is_set, is_valid}
+use Rattle.zd_model.specs.Tables.{Tables, is_set, is_valid}
 use Rattle.zd_tables.specs.Tables.{bits_in_blocks, tables_in}
 use Rattle.zd_repair.specs.Repaired.{IsInRange, IsTwice, MakesInvalid}
 

@@ -1,12 +1,11 @@
 -- What is left of an entry is right, beside what earlier chunks name.
-use Rattle.std.proofs.Common.{◌≡◌, ℕ, ◌<◌, ◌≤◌, Bool, true, false, cond, not, ◌&&◌, List, Option, Some, None, refl, sym, ap, ap₂, ◌∙◌, subst, arith, leb, ltb}
-use Rattle.std.proofs.lemmas.Bool.{false≢true}
+use Rattle.std.proofs.Common.{◌≡◌, ℕ, ◌<◌, Bool, true, false, cond, not, ◌&&◌, List, Option, Some, None, refl, sym, ap, ◌∙◌, subst, arith, leb, ltb}
 use borrow.Author.Tests.{ltb-true}
 use Rattle.std.specs.Option.{option_map_or}
 use Rattle.zd_base.specs.Geometry.{IsShape, Shape, zone_count}
 use Rattle.zd_base.specs.Layout.{first_data_zone}
 use Rattle.zd_base.specs.declared.layout.Layout.{Layout}
-use Rattle.zd_map.specs.Numbers.{IsZoneField, NamesZones, unmapped}
+use Rattle.zd_map.specs.Numbers.{NamesZones, unmapped}
 use Rattle.zd_model.specs.Faults.{has, is_new_zone, is_right_buffer, is_right_entry}
 use Rattle.zd_model.specs.declared.metadata.MapEntry.{MapEntry}
 use Rattle.zd_model.specs.Tables.{entry_of}

@@ -1,13 +1,13 @@
 -- What is left of a map, entry by entry.
-use Rattle.std.proofs.Common.{◌≡◌, ◌≢◌, ℕ, ◌+◌, ◌-◌, ◌<◌, ◌≤◌, Bool, true, false, cond, not, List, map, length, refl, sym, ap, ap₂, ◌∙◌, subst, arith, inl, inr, count_by, zero-add}
+use Rattle.std.proofs.Common.{◌≡◌, ◌≢◌, ℕ, ◌+◌, ◌-◌, ◌<◌, ◌≤◌, Bool, true, false, cond, not, List, length, refl, sym, ap, ap₂, ◌∙◌, subst, arith, inl, inr, count_by, zero-add}
 use Rattle.std.proofs.lemmas.Bool.{cases_lt}
 use Rattle.std.specs.Prelude.{IsSome, IfSome}
 use Rattle.std.specs.Int.{from_bool}
 use Rattle.std.specs.List.{flat_map, range_with_len}
-use Rattle.zd_base.specs.Geometry.{Shape, zone_count}
+use Rattle.zd_base.specs.Geometry.{Shape}
 use Rattle.zd_base.specs.declared.layout.Layout.{Layout}
 use Rattle.zd_disk.proofs.ToldLaws.{IfSome-each}
-use Rattle.zd_examine.specs.Roles.{AreRoles, GivesRole, is_unnamed, roles_with}
+use Rattle.zd_examine.specs.Roles.{AreRoles, GivesRole, roles_with}
 use Rattle.zd_examine.specs.declared.roles.Role.{Role}
 use Rattle.zd_examine.proofs.RoleLaws.{beside_zone, in_disk, roles_more}
 use Rattle.zd_model.specs.Faults.{has, is_right_entry}

@@ -1,11 +1,10 @@
 -- What is left of tables follows the rules; and where nothing was wrong, it is the tables themselves.
-use Rattle.std.proofs.Common.{◌≡◌, ◌⊎◌, ℕ, zero, suc, ◌+◌, ◌*◌, ◌<◌, ◌≤◌, Bool, true, false, not, cond, List, map, get_or, Option, Some, refl, sym, ap, ap₂, ◌∙◌, subst, inl, inr, arith, count_by, sum_by, slice_index}
+use Rattle.std.proofs.Common.{◌≡◌, ◌⊎◌, ℕ, zero, suc, ◌+◌, ◌<◌, ◌≤◌, Bool, true, false, not, cond, List, refl, sym, ap, ◌∙◌, subst, inl, inr, arith, sum_by}
 use Rattle.std.proofs.lemmas.Bool.{cases_eq, cases_lt, false≢true}
 use Rattle.std.proofs.lemmas.List.FromFn.{length-map-range_with_len}
 use Rattle.std.proofs.lemmas.List.Sums.{sum_by-cons}
 use Rattle.std.proofs.Math.ListN.{get_or-eq_default}
 use Rattle.std.specs.List.{range_with_len}
-use Rattle.std.specs.Prelude.{IsTrue}
 use Rattle.zd_base.specs.Geometry.{Shape, zone_count}
 use Rattle.zd_base.specs.declared.layout.Layout.{Layout}
 use Rattle.zd_map.specs.Numbers.{unmapped}
@@ -15,8 +14,7 @@ use Rattle.zd_model.specs.declared.metadata.MapEntry.{MapEntry}
 use Rattle.zd_model.proofs.SameLaws.{same_map}
 use Rattle.zd_tables.specs.Held.{valid_count}
 use Rattle.zd_tables.specs.Tables.{entries_in, entry_in_blocks, tables_in}
-use Rattle.zd_repair.specs.Finished.{AreLeftBlocks}
-use Rattle.zd_repair.specs.Repaired.{CountsDropped, IsLeftOf, IsNothing, MayStayValid, left_of, named_before, valid_total, wrong_entries}
+use Rattle.zd_repair.specs.Repaired.{CountsDropped, IsLeftOf, IsNothing, named_before}
 use Rattle.zd_repair.specs.declared.tables.Repaired.{Repaired}
 use Rattle.zd_repair.proofs.LeftEntries.{held_entry, left_if_right}
 use Rattle.zd_repair.proofs.LeftMaps.{named_as, passing_as}

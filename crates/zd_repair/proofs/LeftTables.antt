@@ -1,22 +1,22 @@
 -- What is left of the tables: of the map first, and then of the bitmaps by what the map has zones do.
-use Rattle.std.proofs.Common.{◌≡◌, ◌≢◌, ◌⊎◌, ℕ, ◌+◌, ◌*◌, ◌/◌, ◌<◌, ◌≤◌, Bool, true, false, not, List, ◌++◌, take, drop, length, Option, Some, refl, sym, ap, ap₂, ◌∙◌, subst, inl, inr, arith}
+use Rattle.std.proofs.Common.{◌≡◌, ℕ, ◌+◌, ◌*◌, ◌/◌, ◌<◌, ◌≤◌, Bool, true, false, not, List, ◌++◌, take, drop, length, Option, Some, refl, sym, ap, ap₂, ◌∙◌, subst, inl, inr, arith}
 use Rattle.std.proofs.lemmas.Bool.{cases_lt, false≢true}
 use Rattle.std.proofs.Math.Seq.{take-append_seam}
-use Rattle.std.specs.Prelude.{◌↔◌, IsSomeAnd, IsTrue}
+use Rattle.std.specs.Prelude.{IsSomeAnd}
 use Rattle.zd_base.specs.Geometry.{Shape, zone_count}
 use Rattle.zd_base.specs.declared.layout.Layout.{Layout}
 use Rattle.zd_examine.specs.Roles.{AreRoles, GivesRole, is_unnamed}
 use Rattle.zd_examine.specs.declared.roles.Role.{Role}
 use Rattle.zd_examine.specs.declared.roles.Role.TheVariants.{Unnamed, Main, Buffer}
-use Rattle.zd_model.specs.Faults.{has, is_right_entry}
-use Rattle.zd_model.specs.Tables.{BitsFollowRules, MapFollowsRules, NamesZone, Tables, entry_of, is_valid}
+use Rattle.zd_model.specs.Faults.{is_right_entry}
+use Rattle.zd_model.specs.Tables.{MapFollowsRules, NamesZone, Tables, entry_of, is_valid}
 use Rattle.zd_model.specs.declared.metadata.MapEntry.{MapEntry}
 use Rattle.zd_model.proofs.FaultLaws.{some_is}
 use Rattle.zd_tables.specs.Tables.{entries_in, entry_in_blocks, tables_in}
 use Rattle.zd_repair.specs.Repaired.{IsLeftOf, IsMapLeft, IsWrongBy, IsWrongPlace, MakesInvalid, MayStayValid, left_of, named_before, role_at, wrong_entries}
 use Rattle.zd_repair.proofs.LeftEntries.{held_entry}
 use Rattle.zd_repair.proofs.LeftMaps.{named_as, passing_as}
-use Rattle.zd_repair.proofs.RepairedMaps.{has_name, named_low, rules_left}
+use Rattle.zd_repair.proofs.RepairedMaps.{has_name, rules_left}
 
 module _ (g : Shape) (l : Layout) (pointer : ℕ → ℕ) (old mid : List ℕ)
     (left : IsMapLeft g l (entry_in_blocks old) (entry_in_blocks mid) l.chunks) where

@@ -1,11 +1,11 @@
 -- A disk whose sets are made equal, and whose tables are repaired then.
-use Rattle.std.proofs.Common.{◌≡◌, ◌⊎◌, ℕ, ◌+◌, ◌-◌, ◌*◌, ◌^◌, ◌<◌, ◌≤◌, List, Option, Some, None, Result, Ok, Err, IfOk, IfErr, length, inl, inr, refl, sym, ap, ◌∙◌, subst, arith}
-use Rattle.zd_base.specs.Geometry.{Shape, zone_count}
+use Rattle.std.proofs.Common.{◌≡◌, ℕ, ◌+◌, ◌-◌, ◌*◌, ◌^◌, ◌<◌, List, Option, Some, None, Result, Ok, Err, IfOk, IfErr, length, inl, inr, ap, subst, arith}
+use Rattle.zd_base.specs.Geometry.{Shape}
 use Rattle.zd_base.specs.Layout.{set_zones, used_blocks}
 use Rattle.zd_disk.specs.Told.{Both, WhereTold}
-use Rattle.zd_disk.specs.View.{View, HasFailed, Holds, IsDurable, Keeps, MadeOf, OnlyReads, Reaches, Turns}
+use Rattle.zd_disk.specs.View.{View, Holds, IsDurable, Keeps, MadeOf, OnlyReads, Reaches, Turns}
 use Rattle.zd_disk.proofs.ToldLaws.{Both-by}
-use Rattle.zd_disk.proofs.ViewLaws.{IsReadAs, IsWay, durable_read, holds_durable, keeps_first, reaches_as, reaches_then, read_as, turned, turned_back, turns_as, turns_read, turns_then}
+use Rattle.zd_disk.proofs.ViewLaws.{IsWay, durable_read, holds_durable, keeps_first, reaches_as, reaches_then, read_as, turned, turned_back, turns_as, turns_read, turns_then}
 use Rattle.zd_examine.specs.Examined.{ArePointers}
 use Rattle.zd_examine.specs.Opened.{HoldsBothSets}
 use Rattle.zd_model.specs.Image.{Image, IsImage, Same}
@@ -20,7 +20,7 @@ use Rattle.zd_sets.proofs.EqualLaws.{only_more, only_then, same_only}
 use Rattle.zd_repair.specs.Committed.{InBothSets, PutsBothSets, commit_calls}
 use Rattle.zd_repair.specs.Finished.{AreLeftBlocks, ExplainsFinish, HasFinished, HasCommittedLeft, IsFinishing}
 use Rattle.zd_repair.specs.Repaired.{IsNothing}
-use Rattle.zd_repair.specs.Repairing.{CannotMend, CountsRepair, HasMended, HasWrong, IsMadeSame, IsOnlyEqual, IsPartOfRepair, IsRepair, MendLeaves, changed_blocks}
+use Rattle.zd_repair.specs.Repairing.{HasMended, HasWrong, IsMadeSame, IsOnlyEqual, IsPartOfRepair, IsRepair, MendLeaves, changed_blocks}
 use Rattle.zd_repair.specs.declared.repairing.RepairFault.{RepairFault}
 use Rattle.zd_repair.specs.declared.repairing.RepairFault.TheVariants.{NoSuperBlock, Layout as BadLayout, Device, Generation, Memory}
 use Rattle.zd_repair.specs.declared.tables.Repaired.{Repaired}

@@ -1,6 +1,6 @@
 -- What is repaired at the end.
-use Rattle.std.proofs.Common.{◌≡◌, ◌⊎◌, ℕ, ◌+◌, ◌*◌, ◌<◌, ◌≤◌, ◌^◌, List, Some, length, slice_index, inl, inr, refl, sym, ap, ap₂, ◌∙◌, subst, arith}
-use Rattle.zd_base.specs.Geometry.{Shape, zone_count}
+use Rattle.std.proofs.Common.{◌≡◌, ℕ, ◌+◌, ◌*◌, ◌<◌, ◌≤◌, ◌^◌, List, slice_index, inl, inr, refl, sym, ap, ap₂, ◌∙◌, subst, arith}
+use Rattle.zd_base.specs.Geometry.{Shape}
 use Rattle.zd_base.specs.Layout.{set_zones, used_blocks}
 use Rattle.zd_base.specs.declared.layout.Layout.{Layout}
 use Rattle.zd_examine.specs.Opened.{HoldsSet}
@@ -9,7 +9,7 @@ use Rattle.zd_model.specs.Tables.{BitsFollowRules, Tables}
 use Rattle.zd_model.specs.Volume.{tables_of}
 use Rattle.zd_model.specs.declared.metadata.Super.{Super}
 use Rattle.zd_sets.specs.Blocks.{blocks_of}
-use Rattle.zd_sets.specs.Calls.{differ, differing_from, equal_calls}
+use Rattle.zd_sets.specs.Calls.{differ, differing_from}
 use Rattle.zd_sets.specs.Choice.{chosen_of}
 use Rattle.zd_sets.specs.Equal.{IsMadeEqual, OnlyAt}
 use Rattle.zd_sets.specs.Stages.{next_head}
@@ -21,10 +21,10 @@ use Rattle.zd_repair.specs.Committed.{InBothSets, PutsBothSets, commit_calls}
 use Rattle.zd_repair.specs.Finished.{AreLeftBlocks}
 use Rattle.zd_repair.specs.Heads.{HoldsHeads}
 use Rattle.zd_repair.specs.Repaired.{CountsDropped, IsLeftOf, IsNothing}
-use Rattle.zd_repair.specs.Repairing.{AreLeft, CountsRepair, IsHeadAfter, IsMadeSame, IsRepair, changed_blocks, equal_set}
+use Rattle.zd_repair.specs.Repairing.{AreLeft, IsHeadAfter, IsMadeSame, IsRepair, changed_blocks, equal_set}
 use Rattle.zd_repair.specs.declared.tables.Repaired.{Repaired}
 use Rattle.zd_repair.proofs.LeftRules.{left_bits, left_by, left_map, nothing_counted, nothing_left}
-use Rattle.zd_repair.proofs.RepairStages.{IsFoundSet, are_left, both_only, equal_held, equal_sets, equal_tables, equal_well, found_tables, other_only}
+use Rattle.zd_repair.proofs.RepairStages.{IsFoundSet, are_left, both_only, equal_held, equal_sets, equal_tables, equal_well, found_tables}
 
 -- the rules look at the pointers of sequential zones alone
 bits_by : (g : Shape) (p q : ℕ → ℕ) (t : Tables) → ((z : ℕ) → g.conv ≤ z → q z ≡ p z) → BitsFollowRules g p t → BitsFollowRules g q t

@@ -1,36 +1,36 @@
 -- An image whose chosen set was found, both whose sets were made equal then, and committed then: how far its repair has
 -- come.
-use Rattle.std.proofs.Common.{◌≡◌, ◌⊎◌, ℕ, ◌+◌, ◌*◌, ◌/◌, ◌<◌, ◌≤◌, List, Some, IsNone, length, slice_index, inl, inr, refl, sym, ap, ap₂, ◌∙◌, subst, arith}
-use Rattle.zd_base.specs.Geometry.{Shape, zone_count}
+use Rattle.std.proofs.Common.{◌≡◌, ◌⊎◌, ℕ, ◌*◌, ◌<◌, List, IsNone, length, slice_index, inl, inr, refl, sym, ap, ◌∙◌, subst, arith}
+use Rattle.zd_base.specs.Geometry.{Shape}
 use Rattle.zd_base.specs.Layout.{Fits, set_zones, used_blocks}
 use Rattle.zd_base.specs.declared.layout.Layout.{Layout}
-use Rattle.zd_examine.specs.Examined.{ArePointers, IsPlacedSet}
+use Rattle.zd_examine.specs.Examined.{ArePointers}
 use Rattle.zd_examine.specs.Opened.{HoldsBothSets, HoldsSet}
 use Rattle.zd_examine.proofs.ChosenHead.{chosen_head}
-use Rattle.zd_examine.proofs.OpenLaws.{placed_set, tables_are}
-use Rattle.zd_model.specs.Image.{Image, IsImage, Same, block_at, set_block}
+use Rattle.zd_examine.proofs.OpenLaws.{tables_are}
+use Rattle.zd_model.specs.Image.{Image, IsImage, block_at, set_block}
 use Rattle.zd_model.specs.Tables.{BitsFollowRules, MapFollowsRules, Tables}
-use Rattle.zd_model.specs.Volume.{Chosen as Set, IsWellFormed, chosen, good_super, tables_of}
+use Rattle.zd_model.specs.Volume.{IsWellFormed, good_super, tables_of}
 use Rattle.zd_model.specs.declared.metadata.Super.{Super}
 use Rattle.zd_model.proofs.SameLaws.{image_at, same_block}
-use Rattle.zd_sets.specs.Blocks.{AreBlocks, blocks_of}
+use Rattle.zd_sets.specs.Blocks.{AreBlocks}
 use Rattle.zd_sets.specs.Choice.{IsChoice, IsPlacedChoice, NoMagicAfter, chosen_of}
-use Rattle.zd_sets.specs.Equal.{InSet, IsMadeEqual, OnlyAt, head_at}
+use Rattle.zd_sets.specs.Equal.{InSet, IsMadeEqual, OnlyAt}
 use Rattle.zd_sets.specs.Kept.{ChoosesSame}
 use Rattle.zd_sets.specs.Stages.{next_head}
 use Rattle.zd_sets.specs.declared.choice.Chosen.{Chosen as Choice}
 use Rattle.zd_sets.proofs.EqualLaws.{first_block, only_more, only_then, same_good, same_only}
 use Rattle.zd_sets.proofs.VolumeLaws.{tables_moved}
 use Rattle.zd_tables.specs.Tables.{entries_in, tables_in}
-use Rattle.zd_repair.specs.Committed.{HasPartOfCommit, InBothSets, PutsBothSets}
+use Rattle.zd_repair.specs.Committed.{InBothSets}
 use Rattle.zd_repair.specs.Finished.{AreLeftBlocks, IsFinishing}
 use Rattle.zd_repair.specs.Heads.{HoldsHeads}
 use Rattle.zd_repair.specs.Repaired.{CountsDropped, IsLeftOf, IsNothing}
-use Rattle.zd_repair.specs.Repairing.{AreLeft, ChoosesWith, HasEqualSets, HasWrong, IsMadeSame, IsPartOfRepair, IsRepair, equal_set}
+use Rattle.zd_repair.specs.Repairing.{AreLeft, ChoosesWith, HasEqualSets, HasWrong, IsPartOfRepair, equal_set}
 use Rattle.zd_repair.specs.declared.tables.Repaired.{Repaired}
-use Rattle.zd_repair.proofs.CommitViews.{first_front, first_holds}
+use Rattle.zd_repair.proofs.CommitViews.{first_holds}
 use Rattle.zd_repair.proofs.HeadChoices.{ChoosesHead, first_by, first_chooses, first_is, second_chooses}
-use Rattle.zd_repair.proofs.LeftRules.{left_bits, left_by, left_map, nothing_counted, nothing_left}
+use Rattle.zd_repair.proofs.LeftRules.{left_by}
 use Rattle.zd_repair.proofs.TakenVolumes.{tables_are as tables_chosen, well_formed_by}
 
 -- the chosen set of an image was found, with its used blocks, and the pointers of the zones
@@ -186,8 +186,11 @@ module _ (c : Choice) (bytes pointers : List ℕ) (old : Image) (found : IsFound
       only = both_only b part.only;
       chooses = elim part.stage [
         | inl second ↦ inl (old_head b (part.only.geometry ∙ equal.only.geometry) (second_part b second.0 second.1))
-        | inr more ↦ inr (has_wrong dropped left are some, chooses_with (next_head c.head) left (AreLeft (chosen_of c) old) b
-            (part.only.geometry ∙ equal.only.geometry) (new_head more) (are_left dropped left are))
+        | inr more ↦ inr (
+          has_wrong dropped left are some,
+          chooses_with (next_head c.head) left (AreLeft (chosen_of c) old) b
+              (part.only.geometry ∙ equal.only.geometry) (new_head more) (are_left dropped left are),
+        )
       ];
     }
       where

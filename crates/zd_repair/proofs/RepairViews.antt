@@ -1,20 +1,17 @@
 -- A disk that is flushed, whose chosen set is found, and repaired then.
-use Rattle.std.proofs.Common.{◌≡◌, ◌⊎◌, ℕ, ◌+◌, ◌-◌, ◌^◌, ◌<◌, ◌≤◌, List, Some, inl, inr, refl, sym, ap, ◌∙◌, subst, arith}
+use Rattle.std.proofs.Common.{◌≡◌, ℕ, ◌+◌, ◌≤◌, Some, inl, inr, sym, ◌∙◌, subst, arith}
 use Rattle.zd_base.specs.Geometry.{IsShape, Shape}
-use Rattle.zd_base.specs.Layout.{used_blocks}
 use Rattle.zd_disk.specs.Told.{WhereTold, next_count}
-use Rattle.zd_disk.specs.View.{View, HasFailed, IsDurable, Keeps, Reaches, ReachesBy, Turns}
-use Rattle.zd_disk.proofs.SameSteps.{Same-refl, Same-trans}
+use Rattle.zd_disk.specs.View.{View, IsDurable, Keeps, Reaches, ReachesBy}
+use Rattle.zd_disk.proofs.SameSteps.{Same-trans}
 use Rattle.zd_disk.proofs.ViewLaws.{by_as, by_kept, by_then, kept_by, read_as, turned, turns_with}
 use Rattle.zd_examine.proofs.OpenLaws.{placed_set}
 use Rattle.zd_examine.proofs.OpenedLaws.{placed_same}
 use Rattle.zd_examine.specs.Examined.{IsPlacedSet}
-use Rattle.zd_examine.specs.Opened.{IsFlushed}
-use Rattle.zd_model.specs.Image.{Image, IsImage, Same}
-use Rattle.zd_model.specs.Volume.{Chosen as Set}
+use Rattle.zd_model.specs.Image.{Image, Same}
 use Rattle.zd_sets.specs.Choice.{IsChoice, IsPlacedChoice, chosen_of}
 use Rattle.zd_sets.specs.declared.choice.Chosen.{Chosen as Choice}
-use Rattle.zd_repair.specs.Repairing.{CannotMend, CountsRepair, ExplainsFind, ExplainsRepair, HasMended, HasOnlyEqualled, HasRepaired, IsFindFault, IsLeftOrPart, IsMadeSame, IsOnlyEqual, IsPartOfRepair, IsPartlyRepaired, IsRepair, IsSameOrPart, KeepsPartFrom, MendLeaves, RepairLeaves}
+use Rattle.zd_repair.specs.Repairing.{CountsRepair, ExplainsFind, ExplainsRepair, HasMended, HasOnlyEqualled, HasRepaired, IsLeftOrPart, IsOnlyEqual, IsPartOfRepair, IsPartlyRepaired, IsSameOrPart, KeepsPartFrom, MendLeaves, RepairLeaves}
 use Rattle.zd_repair.specs.declared.repairing.RepairFault.{RepairFault}
 use Rattle.zd_repair.specs.declared.repairing.RepairFault.TheVariants.{NoSuperBlock, Layout as BadLayout, Device, Generation, Memory}
 use Rattle.zd_repair.specs.declared.tables.Repaired.{Repaired}

@@ -1,5 +1,5 @@
 -- What is left of a map follows the rules.
-use Rattle.std.proofs.Common.{◌≡◌, ℕ, zero, suc, ◌+◌, ◌-◌, ◌<◌, ◌≤◌, Bool, true, ◌||◌, ◌==◌, List, [], ◌∷◌, map, get_or, Option, Some, None, refl, sym, ap, ap₂, ◌∙◌, subst, inl, inr, arith}
+use Rattle.std.proofs.Common.{◌≡◌, ℕ, zero, suc, ◌+◌, ◌-◌, ◌<◌, ◌≤◌, Bool, true, ◌||◌, ◌==◌, List, [], ◌∷◌, map, get_or, refl, sym, ap, ◌∙◌, subst, inl, inr, arith}
 use Rattle.std.proofs.lemmas.Bool.{cases_lt}
 use Rattle.std.proofs.lemmas.List.Folds.{list_any-append}
 use Rattle.std.proofs.lemmas.List.FromFn.{length-map-range_with_len}
@@ -11,7 +11,7 @@ use Rattle.zd_examine.proofs.EntryLaws.{named_more, right_here}
 use Rattle.zd_model.specs.Faults.{bad_chunk, has, is_right_entry}
 use Rattle.zd_model.specs.Tables.{MapFollowsRules, NamesZone, entry_of, zones_of}
 use Rattle.zd_model.specs.declared.metadata.MapEntry.{MapEntry}
-use Rattle.zd_model.proofs.FaultLaws.{has_named, map_follows, no_name, none_some, or_right, unmapped}
+use Rattle.zd_model.proofs.FaultLaws.{has_named, map_follows, no_name, or_right, unmapped}
 use Rattle.zd_tables.specs.Tables.{entries_in, entry_in_blocks, tables_in}
 use Rattle.zd_repair.specs.Repaired.{IsMapLeft, named_before}
 use Rattle.zd_repair.proofs.LeftEntries.{left_right}

@@ -1,18 +1,18 @@
 -- The blocks that zones make wrong, zone after zone, by what the map has them do.
-use Rattle.std.proofs.Common.{◌≡◌, ◌≢◌, ◌⊎◌, ℕ, ◌+◌, ◌/◌, ◌<◌, ◌≤◌, Bool, true, false, List, Option, Some, get_or, refl, sym, ap, ◌∙◌, subst, inl, inr, arith}
+use Rattle.std.proofs.Common.{◌≡◌, ◌≢◌, ℕ, ◌+◌, ◌<◌, ◌≤◌, List, Option, Some, get_or, refl, sym, ap, ◌∙◌, subst, inl, inr, arith}
 use Rattle.std.proofs.lemmas.Bool.{cases_lt}
 use Rattle.std.proofs.lemmas.List.{get_or_default}
 use Rattle.std.specs.Prelude.{IsSomeAnd}
 use Rattle.zd_base.specs.Geometry.{Shape, zone_count}
 use Rattle.zd_base.specs.declared.layout.Layout.{Layout}
-use Rattle.zd_examine.specs.Roles.{AreRoles, is_unnamed}
+use Rattle.zd_examine.specs.Roles.{AreRoles}
 use Rattle.zd_examine.specs.declared.roles.Role.{Role}
 use Rattle.zd_examine.specs.declared.roles.Role.TheVariants.{Unnamed, Main, Buffer}
 use Rattle.zd_model.specs.Tables.{MapFollowsRules, NamesZone, Tables, entry_in_map, is_valid}
 use Rattle.zd_model.specs.declared.metadata.MapEntry.{MapEntry}
 use Rattle.zd_model.proofs.FaultLaws.{some_is}
-use Rattle.zd_tables.specs.Tables.{entries_in, entry_in_blocks, tables_in}
-use Rattle.zd_repair.specs.Repaired.{IsTwice, IsWrongBy, IsWrongPlace, MakesInvalid, role_at}
+use Rattle.zd_tables.specs.Tables.{entries_in, entry_in_blocks}
+use Rattle.zd_repair.specs.Repaired.{IsWrongBy, IsWrongPlace, MakesInvalid, role_at}
 use Rattle.zd_repair.proofs.InvalidLaws.{invalid_then}
 use Rattle.zd_repair.proofs.LeftEntries.{held_entry}
 

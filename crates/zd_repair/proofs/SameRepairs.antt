@@ -1,7 +1,7 @@
 -- The repair of an image is that of one that holds the same.
-use Rattle.std.proofs.Common.{◌≡◌, ◌⊎◌, ℕ, ◌+◌, ◌*◌, ◌<◌, ◌≤◌, List, [], is_some, inl, inr, refl, sym, ap, ap₂, ◌∙◌, subst, arith}
+use Rattle.std.proofs.Common.{◌≡◌, ℕ, ◌<◌, List, [], is_some, inl, inr, refl, ap, ◌∙◌, subst, arith}
 use Rattle.zd_base.specs.Geometry.{IsShape, Shape}
-use Rattle.zd_base.specs.Layout.{Fits, used_blocks}
+use Rattle.zd_base.specs.Layout.{used_blocks}
 use Rattle.zd_examine.specs.Examined.{IsPlacedSet}
 use Rattle.zd_examine.specs.declared.examining.OpenFault.TheVariants.{NoSuperBlock as OpenNone, Layout as OpenLayout}
 use Rattle.zd_examine.proofs.OpenLaws.{placed_set}
@@ -20,7 +20,7 @@ use Rattle.zd_sets.proofs.CallLaws.{equal_calls_same, passing_same}
 use Rattle.zd_sets.proofs.EqualLaws.{here_inside, only_then, same_good, same_only, set_still}
 use Rattle.zd_repair.specs.Committed.{InBothSets}
 use Rattle.zd_repair.specs.Repaired.{CountsDropped, IsLeftOf}
-use Rattle.zd_repair.specs.Repairing.{AreLeft, ChoosesWith, CountsRepair, ExplainsFind, ExplainsRepair, HasEqualSets, HasWrong, IsMadeSame, IsPartOfRepair, IsRepair, changed_blocks, equal_set}
+use Rattle.zd_repair.specs.Repairing.{AreLeft, CountsRepair, ExplainsFind, ExplainsRepair, HasEqualSets, HasWrong, IsMadeSame, IsPartOfRepair, IsRepair, changed_blocks, equal_set}
 use Rattle.zd_repair.specs.declared.repairing.RepairFault.{RepairFault}
 use Rattle.zd_repair.specs.declared.repairing.RepairFault.TheVariants.{NoSuperBlock, Layout as BadLayout, Device, Generation, Memory}
 use Rattle.zd_repair.specs.declared.tables.Repaired.{Repaired}

@@ -1,5 +1,5 @@
 -- What is left of a map and of bitmaps once what is wrong in them is dropped.
-use Rattle.std.specs.Prelude.{◌≡◌, ◌↔◌, ℕ, ◌+◌, ◌*◌, ◌/◌, ◌<◌, ◌≤◌, Bool, true, false, not, if◌then◌else◌, IsTrue, List, map, count_by, sum_by, slice_index_or, Some, None}
+use Rattle.std.specs.Prelude.{◌≡◌, ◌↔◌, ℕ, ◌+◌, ◌*◌, ◌/◌, ◌<◌, ◌≤◌, true, false, not, if◌then◌else◌, IsTrue, List, map, count_by, sum_by, slice_index_or, Some, None}
 use Rattle.std.specs.List.{flat_map, range_with_len}
 use Rattle.std.specs.Option.{option_map_or}
 use Rattle.zd_base.specs.Geometry.{Shape, zone_count}

@@ -114,7 +114,8 @@ fn finish_repair<D: ZonedDisk>(
         (D.view disk.old) (D.view disk.new) }
 {
     let layout = found.chosen.head.layout;
-    let Ok((dropped, left)) = left_blocks(alloc, geometry, layout, found.blocks, &found.pointers) else {
+    let Ok((dropped, left)) = left_blocks(alloc, geometry, layout, found.blocks, &found.pointers)
+    else {
         return Err(RepairFault::Memory);
     };
     if dropped.is_nothing() {
@@ -217,10 +218,7 @@ fn find<D: ZonedDisk>(
 /// `NoSuperBlock` or `Layout`, where it wasn't; its chosen map and bits are those before or those after; and no block
 /// changed but used blocks of both sets. That is so where a stop before would have left what the disk read as, and else
 /// from the end of the flush on.
-pub fn repair<D: ZonedDisk>(
-    alloc: Global,
-    mut disk: D,
-) -> Result<(Repaired, D), (RepairFault, D)>
+pub fn repair<D: ZonedDisk>(alloc: Global, mut disk: D) -> Result<(Repaired, D), (RepairFault, D)>
     ensures ok { IfOk result (λ r. HasRepaired r.0 (D.view disk) (D.view r.1)) }
     ensures err { IfErr result (λ e. WhereTold (D.view disk).zones (ExplainsRepair e.0)) }
     ensures leaves { IfErr result (λ e. RepairLeaves e.0 (D.view disk) (D.view e.1)) }

@@ -1,4 +1,4 @@
-use Rattle.std.proofs.Common.{Bool, sym, subst}
+use Rattle.std.proofs.Common.{Bool, subst}
 use Rattle.zd_bits.specs.Bits.{IsBitRun}
 use Rattle.zd_tables.specs.Held.{tables_held}
 use Rattle.zd_tables.specs.Tables.{bits_in_blocks}

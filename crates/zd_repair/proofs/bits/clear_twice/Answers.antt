@@ -1,4 +1,4 @@
-use Rattle.std.proofs.Common.{◌≡◌, ◌+◌, ◌≤◌, ℕ, ◌∙◌, sym, ap, subst, arith}
+use Rattle.std.proofs.Common.{◌+◌, ◌∙◌, ap, subst, arith}
 use Rattle.zd_base.specs.Geometry.{IsShape, Shape}
 use Rattle.zd_tables.specs.Held.{tables_held}
 use Rattle.zd_repair.specs.Repaired.{valid_total}

@@ -1,8 +1,8 @@
-use Rattle.std.proofs.Common.{◌≡◌, ◌≢◌, ◌+◌, ◌≤◌, ◌<◌, ℕ, ◌∙◌, sym, ap, subst, arith, slice_index}
+use Rattle.std.proofs.Common.{◌≢◌, ◌<◌, ◌∙◌, sym, ap, subst, arith, slice_index}
 use Rattle.zd_base.specs.Geometry.{IsShape, Shape, zone_count}
 use Rattle.zd_examine.specs.declared.roles.Role.{Role}
 use Rattle.zd_tables.specs.Held.{tables_held}
-use Rattle.zd_repair.specs.Repaired.{IsWrongBy, MakesInvalid, role_at, valid_total}
+use Rattle.zd_repair.specs.Repaired.{IsWrongBy, MakesInvalid, valid_total}
 use Rattle.zd_repair.proofs.FewerBits.{total_most}
 use Rattle.zd_repair.proofs.RoleBits.{buffer_apart, role_is, wrong_more}
 use Rattle.zd_repair.proofs.bits.repair_bits.Goals as goal

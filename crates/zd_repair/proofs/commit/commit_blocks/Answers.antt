@@ -1,11 +1,6 @@
-use Rattle.std.proofs.Common.{ℕ, subst, arith}
+use Rattle.std.proofs.Common.{arith}
 use Rattle.std.proofs.lemmas.Result.{on_ok_weaker}
-use Rattle.zd_base.specs.Layout.{used_blocks}
-use Rattle.zd_disk.specs.View.{Keeps, MadeOf, Reaches, Turns}
-use Rattle.zd_sets.specs.Calls.{differing_from}
-use Rattle.zd_sets.specs.Equal.{InSet, OnlyAt}
-use Rattle.zd_repair.specs.Committed.{HasPartOfSet, PutsSet}
-use Rattle.zd_repair.proofs.CommitViews.{commit_counted, commit_good, commit_kept, commit_one_kept, commit_one_way, commit_put, commit_way, inside}
+use Rattle.zd_repair.proofs.CommitViews.{commit_counted, commit_good, commit_kept, commit_one_kept, commit_one_way, commit_put, commit_way}
 use Rattle.zd_repair.proofs.commit.commit_blocks.Goals as goal
 
 pub returns-in_err-commit_set-clause-way : goal.returns-in_err-commit_set-clause-way

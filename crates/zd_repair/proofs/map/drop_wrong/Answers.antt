@@ -1,10 +1,9 @@
-use Rattle.std.proofs.Common.{ℕ, Bool, List, not, sym, ap, ◌∙◌, subst}
+use Rattle.std.proofs.Common.{ℕ, List, not, sym, ap, ◌∙◌, subst}
 use Rattle.zd_base.specs.Geometry.{IsShape, Shape}
 use Rattle.zd_examine.specs.Roles.{AreNamed}
-use Rattle.zd_model.specs.declared.metadata.MapEntry.{MapEntry}
 use Rattle.zd_map.specs.Numbers.{NamesZones}
 use Rattle.zd_tables.specs.Tables.{entry_in_blocks}
-use Rattle.zd_repair.specs.Repaired.{left_of, named_before}
+use Rattle.zd_repair.specs.Repaired.{named_before}
 use Rattle.zd_repair.proofs.LeftEntries.{corrected_as, corrected_none, corrected_some, held_entry, left_if_right, left_names}
 use Rattle.zd_repair.proofs.map.drop_wrong.Goals as goal
 

@@ -1,6 +1,5 @@
-use Rattle.std.proofs.Common.{ℕ, ◌<◌, ◌∙◌, sym, subst, arith}
+use Rattle.std.proofs.Common.{◌<◌, ◌∙◌, sym, subst, arith}
 use Rattle.zd_base.specs.declared.layout.Layout.{Layout}
-use Rattle.zd_model.specs.declared.metadata.MapEntry.{MapEntry}
 use Rattle.zd_tables.specs.Tables.{entry_in_blocks}
 use Rattle.zd_repair.proofs.LeftEntries.{held_entry}
 use Rattle.zd_repair.proofs.LeftMaps.{buffer_has_role, roles_now, zone_has_role}

@@ -13,6 +13,8 @@ returns-in-Err-Layout-clause-err g c image z =
 
 pub returns-in-Ok-read_pointers-clause-value : goal.returns-in-Ok-read_pointers-clause-value
 returns-in-Ok-read_pointers-clause-value g c image z =
-    let here = c.choose.ensures.reads.zones ∙ z in
-    (c.in-Ok.ensures.ok image z, c.in-Ok-read_set.ensures.value image here,
-    c.in-Ok-read_pointers.ensures.value image (c.read_set.ensures.reads.zones ∙ here))
+    let here = c.choose.ensures.reads.zones ∙ z in (
+      c.in-Ok.ensures.ok image z,
+      c.in-Ok-read_set.ensures.value image here,
+      c.in-Ok-read_pointers.ensures.value image (c.read_set.ensures.reads.zones ∙ here),
+    )

@@ -1,4 +1,4 @@
-use Rattle.std.proofs.Common.{◌≡◌, ◌+◌, ℕ, List, true≢false, inl, sym, ap, ◌∙◌, subst}
+use Rattle.std.proofs.Common.{true≢false, inl, sym, ◌∙◌}
 use Rattle.zd_repair.proofs.FinishLaws.{finished_nothing, keeps_finishing, keeps_none, left_of_pointers, supers_good}
 use Rattle.zd_repair.proofs.repairing.finish_repair.Goals as goal
 

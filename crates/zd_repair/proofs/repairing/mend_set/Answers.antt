@@ -1,4 +1,4 @@
-use Rattle.std.proofs.Common.{ℕ, ◌<◌, arith}
+use Rattle.std.proofs.Common.{arith}
 use Rattle.zd_repair.proofs.MendViews.{equal_kept, equal_way, err_as, has_mended, mend_kept, mend_leaves, mend_way, ok_as, sets_held}
 use Rattle.zd_repair.proofs.repairing.mend_set.Goals as goal
 

@@ -1,4 +1,4 @@
-use Rattle.std.proofs.Common.{◌≡◌, ◌∙◌, sym, arith}
+use Rattle.std.proofs.Common.{◌∙◌, sym}
 use Rattle.zd_disk.proofs.ViewLaws.{durable_read, reaches_read}
 use Rattle.zd_repair.proofs.RepairViews.{find_explains, flushed_keeps, flushed_way, has_repaired, mend_explains, mend_leaves_then, part_keeps, repair_keeps, repair_way}
 use Rattle.zd_repair.proofs.repairing.repair.Goals as goal

@@ -1,8 +1,7 @@
-use Rattle.std.proofs.Common.{◌≡◌, ◌+◌, ℕ, List, sym, ap, ◌∙◌, subst, arith, slice_index}
+use Rattle.std.proofs.Common.{◌≡◌, ◌+◌, ℕ, sym, ap, ◌∙◌, subst, arith, slice_index}
 use Rattle.zd_base.specs.Geometry.{Shape, zone_count}
 use Rattle.zd_base.specs.declared.layout.Layout.{Layout}
 use Rattle.zd_examine.specs.Roles.{AreRoles}
-use Rattle.zd_examine.specs.declared.roles.Role.{Role}
 use Rattle.zd_model.specs.Tables.{MapFollowsRules, Tables, is_valid}
 use Rattle.zd_tables.specs.Held.{tables_held}
 use Rattle.zd_tables.specs.Tables.{entries_in, entry_in_blocks}
