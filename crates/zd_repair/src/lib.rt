@@ -13,9 +13,9 @@
 //! `repair` (`HasRepaired`): after Ok both sets are equal, and the disk is a well-formed volume whose map and bits are
 //! those before without what was wrong in them (`IsLeftOf`): each entry is what `left_of` leaves of it beside what is
 //! left of earlier chunks, and a block is valid exactly where it was and may be by that map and the pointers. The
-//! answer counts both (`CountsDropped`), and so are the writing calls (`CountsRepair`): where nothing was wrong there is
-//! no commit, and the head is as it was; else there is one, of the next generation. Used blocks of both sets changed
-//! alone. `NoSuperBlock`, `Layout` and `Generation` come exactly where they have to; the first two leave one flush, and
+//! answer counts both (`CountsDropped`), and the writing calls are counted (`CountsRepair`): where nothing was wrong
+//! there is no commit, and the head is as it was; else there is one, of the next generation. Used blocks of both sets
+//! changed alone. `NoSuperBlock`, `Layout` and `Generation` come exactly where they have to; the first two leave one flush, and
 //! the last both sets made equal, and so does `Memory` or less. A stop at any moment leaves an image whose chosen set
 //! has the head and the tables before, or the next head and the tables after (`IsPartOfRepair`), and which neither of
 //! the two refuses.
