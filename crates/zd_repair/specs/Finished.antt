@@ -49,5 +49,6 @@ ExplainsFinish g c bytes pointers u v NoSuperBlock = ⊥
 ExplainsFinish g c bytes pointers u v BadLayout = ⊥
 ExplainsFinish g c bytes pointers u v Device = HasFailed u v
 ExplainsFinish g c bytes pointers u v Generation = OnlyReads u v × (c.head.generation ≡ 2 ^ 64 - 1)
-    × ((dropped : Repaired) × (left : List ℕ) × AreLeftBlocks g c.head.layout bytes pointers dropped left × (IsNothing dropped → ⊥))
+    × ((dropped : Repaired) × (left : List ℕ) × AreLeftBlocks g c.head.layout bytes pointers dropped left
+    × (IsNothing dropped → ⊥))
 ExplainsFinish g c bytes pointers u v Memory = OnlyReads u v

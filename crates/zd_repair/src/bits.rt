@@ -105,7 +105,8 @@ fn repair_zone(tables: &mut VolumeTables, zone: ZoneNo, role: Role, pointer: u32
 pub fn repair_bits(tables: &mut VolumeTables, roles: &[Role], pointers: &[u32]) -> u64
     requires map { MapFollowsRules tables.old.geometry tables.old.layout
         (entries_in tables.old.layout tables.old.bytes) }
-    requires roles { AreRoles tables.old.geometry (entry_in_blocks tables.old.bytes) tables.old.layout.chunks roles.now }
+    requires roles { AreRoles tables.old.geometry (entry_in_blocks tables.old.bytes)
+        tables.old.layout.chunks roles.now }
     requires pointers { length pointers.now ≡ zone_count tables.old.geometry }
     ensures bits { MakesInvalid (IsWrongPlace tables.old.geometry (tables_held tables.old) roles.now
         (slice_index pointers.now) (zone_count tables.old.geometry))

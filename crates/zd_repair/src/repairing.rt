@@ -35,8 +35,8 @@ pub enum RepairFault {
     Layout,
     /// A call of the disk failed.
     Device,
-    /// Something is wrong in the tables, and the generation is the last one. Both sets were made equal, and nothing else
-    /// was written.
+    /// Something is wrong in the tables, and the generation is the last one. Both sets were made equal, and nothing
+    /// else was written.
     Generation,
     /// No memory was found.
     Memory,
