@@ -15,10 +15,10 @@
 //! left of earlier chunks, and a block is valid exactly where it was and may be by that map and the pointers. The
 //! answer counts both (`CountsDropped`), and the writing calls are counted (`CountsRepair`): where nothing was wrong
 //! there is no commit, and the head is as it was; else there is one, of the next generation. Used blocks of both sets
-//! changed alone. `NoSuperBlock`, `Layout` and `Generation` come exactly where they have to; the first two leave one flush, and
-//! the last both sets made equal, and so does `Memory` or less. A stop at any moment leaves an image whose chosen set
-//! has the head and the tables before, or the next head and the tables after (`IsPartOfRepair`), and which neither of
-//! the two refuses.
+//! changed alone. `NoSuperBlock`, `Layout` and `Generation` come exactly where they have to; the first two leave one
+//! flush, the last leaves both sets made equal, and `Memory` one of both. A stop at any moment leaves an image whose
+//! chosen set has the head and the tables before, or the next head and the tables after (`IsPartOfRepair`), and which
+//! neither of the two refuses.
 //!
 //! Said of stops: where a stop before the call would have left what the disk read as (`kept`), and else from the end of
 //! the call's first flush on (`settled`). `Device` comes only where the count of faults rose.
