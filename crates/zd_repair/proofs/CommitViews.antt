@@ -88,7 +88,7 @@ module _ (g : Shape) (l : Layout) (head : Super) (bytes : List ℕ) (some : 0 < 
     each = λ k above below. first_still a b shape only k below ∙ holds.each k above below;
   }
 
-  second_holds : (a b : Image) → a.geometry ≡ g → OnlyAt (InSet g 0 0 (used_blocks g l)) a b → (h : Super) (was : List ℕ)
+  pub second_holds : (a b : Image) → a.geometry ≡ g → OnlyAt (InSet g 0 0 (used_blocks g l)) a b → (h : Super) (was : List ℕ)
       → HoldsSet g n (used_blocks g l) h was a → HoldsSet g n (used_blocks g l) h was b
   second_holds a b shape only h was holds = record {
     super = same_good a b n only.geometry (sym (first_block b n) ∙ second_still a b shape only 0 (omega arith) ∙ first_block a n) ∙ holds.super;

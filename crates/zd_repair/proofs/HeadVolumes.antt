@@ -11,7 +11,7 @@ use Rattle.zd_sets.specs.declared.choice.Chosen.{Chosen as Choice}
 use Rattle.zd_tables.specs.Tables.{entries_in}
 use Rattle.zd_repair.specs.Heads.{HoldsEither, HoldsHeads, IsNextHead}
 use Rattle.zd_repair.specs.Reheaded.{ServesWith, ServesWithEither}
-use Rattle.zd_repair.proofs.HeadChoices.{ChoosesHead, newer_second, older_second}
+use Rattle.zd_repair.proofs.HeadChoices.{ChoosesHead, first_chooses, second_chooses}
 use Rattle.zd_repair.proofs.TakenVolumes.{content_by, well_formed_by}
 
 module _ (g : Shape) (c : Choice) (bytes : List ℕ) (fits : Fits g c.head.layout)
@@ -30,11 +30,10 @@ module _ (g : Shape) (c : Choice) (bytes : List ℕ) (fits : Fits g c.head.layou
       → HoldsHeads g c.head.layout first second bytes i
       → (second.generation ≤ first.generation → ChoosesHead g c.head.layout bytes first i)
       × (first.generation < second.generation → ChoosesHead g c.head.layout bytes second i)
-  chosen_by first second one two =
-      subst (λ (s : Shape). Fits s c.head.layout → HoldsHeads s c.head.layout first second bytes i
-      → (second.generation ≤ first.generation → ChoosesHead s c.head.layout bytes first i)
-      × (first.generation < second.generation → ChoosesHead s c.head.layout bytes second i)) shape
-      (λ f h. (older_second c.head.layout bytes first second one two i f h, newer_second c.head.layout bytes first second one two i f h)) fits
+  chosen_by first second one two h = (
+    λ le. first_chooses g c.head.layout first second one two i shape fits bytes le h.first_set h.second_set.super,
+    λ less. second_chooses g c.head.layout first second one two i shape fits bytes less h.first_set.super h.second_set,
+  )
 
   module _ (new : Super) (next : IsNextHead c.head new) where
     -- with the new one in both

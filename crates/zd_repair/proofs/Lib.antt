@@ -16,3 +16,10 @@ pub mod RepairedMaps
 pub mod LeftTables
 pub mod CommitLaws
 pub mod CommitViews
+pub mod FinishLaws
+pub mod LeftRules
+pub mod RepairStages
+pub mod RepairEnds
+pub mod MendViews
+pub mod SameRepairs
+pub mod RepairViews

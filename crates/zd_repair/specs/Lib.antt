@@ -4,3 +4,5 @@ pub mod Relabeled
 pub mod Upgraded
 pub mod Repaired
 pub mod Committed
+pub mod Finished
+pub mod Repairing

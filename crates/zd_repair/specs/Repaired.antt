@@ -91,3 +91,8 @@ pub record IsLeftOf (g : Shape) (l : Layout) (pointer : ℕ → ℕ) (old new : 
 pub record CountsDropped (g : Shape) (l : Layout) (old new : Tables) (dropped : Repaired) : Type 0 where
   pub entries : dropped.entries ≡ wrong_entries g l (entry_of old) (entry_of new) l.chunks
   pub bits : valid_total g new + dropped.bits ≡ valid_total g old
+
+-- nothing was dropped
+pub record IsNothing (dropped : Repaired) : Type 0 where
+  pub entries : dropped.entries ≡ 0
+  pub bits : dropped.bits ≡ 0

@@ -1,9 +1,9 @@
 //! The tables of a volume without what is wrong in them.
 
-ghost use Rattle.std.specs.Prelude.{◌≡◌, IfOk, OnErr, OnOk, length, slice_index};
+ghost use Rattle.std.specs.Prelude.{◌≡◌, ◌↔◌, IsTrue, IfOk, OnErr, OnOk, length, slice_index};
 ghost use Rattle.zd_base.specs.Geometry.{zone_count};
 ghost use Rattle.zd_tables.specs.Held.{SamePlace, tables_held};
-ghost use Rattle.zd_repair.specs.Repaired.{CountsDropped, IsLeftOf};
+ghost use Rattle.zd_repair.specs.Repaired.{CountsDropped, IsLeftOf, IsNothing};
 
 use crate::bits::repair_bits;
 use crate::map::repair_map;
@@ -18,6 +18,15 @@ pub struct Repaired {
     pub entries: u32,
     /// How many bits of the bitmaps were cleared.
     pub bits: u64,
+}
+
+impl Repaired {
+    /// Whether nothing was wrong.
+    pub(crate) fn is_nothing(&self) -> bool
+        ensures { IsTrue result ↔ IsNothing self.now }
+    {
+        self.entries == 0 && self.bits == 0
+    }
 }
 
 /// Drops what is wrong in the map, and then clears what is wrong in the bitmaps by what is left of it, where the
