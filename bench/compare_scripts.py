@@ -3,10 +3,10 @@
 
 Usage: bench/compare_scripts.py [COUNT [SEED]], after ./demo, which builds the programs.
 It stops at the first difference. Half of the scripts lie near the rules: numbers at their bounds, and small slips. The
-others are of right requests, with many writes. One volume is fresh; the others have blocks in zones and in buffer zones,
-and sectors of every kind of item, and one of them has conventional zones to spare. Each script runs over a copy of its
-own, and after a run that ended well the image is read back by a second run. The end tells how often each place of a
-write was taken.
+others are of right requests of up to three callers, with many writes. One volume is fresh; the others have blocks in zones
+and in buffer zones, and sectors of every kind of item, and one of them has conventional zones to spare. Each script runs
+over a copy of its own, and after a run that ended well the image is read back by a second run. The end tells how often
+each place of a write was taken, and each job done.
 """
 import random
 import re
@@ -30,8 +30,6 @@ METADATA, ALL_ZONES = 2, 12
 # Chunk: its zone and its buffer zone, which is conventional, or None. The other chunks have no zone.
 FULL = {0: (6, 2), 1: (3, None), 2: (9, None), 4: (7, 5), 7: (4, None)}
 LOOSE = {0: (6, 2), 1: (3, None), 2: (9, None), 4: (7, None)}
-# The chunks that may be written without want of a zone, whatever was written before.
-WRITABLE = {"fresh": [0, 3, 5, 7], "full": [0, 1, 4, 7], "loose": [0, 1, 2, 4]}
 
 NUMBER = rb"(0|[1-9][0-9]*)"
 FIELDS = {"r": 3, "w": 4, "d": 3, "f": 1, "rs": 3, "ws": 4}
@@ -98,28 +96,56 @@ def pieces(place, count, chunk):
         at = end
 
 
-def answers(requests, content, volume):
-    """The report's lines, each in its request's own unit: blocks or sectors. The last one says how the run ended."""
+def all_pieces(requests):
+    """The pieces of a script, each in its request's own unit, blocks or sectors: its caller, the front of its line, its
+    form, its seed, and the sectors from where to before where; None for those of a flush and of a request out of range."""
     for request, (letters, numbers) in enumerate(requests, 1):
-        form = letters.decode()
+        form, caller = letters.decode(), numbers[0]
         if form == "f":
-            volume.flush()
-            yield f"0 {request} 0 f done @{volume.calls}"
+            yield caller, f"{caller} {request} 0 f", form, None, None
             continue
         place, count, *seed = numbers[1:]
         sectors = 1 if form in ("rs", "ws") else BLOCK_SECTORS
         units = BLOCK_SECTORS // sectors
         rest = "".join(f" {number}" for number in seed)
         if place + count > BLOCKS * units:
-            yield f"0 {request} 0 {form} {place} {count}{rest} range @{volume.calls}"
+            yield caller, f"{caller} {request} 0 {form} {place} {count}{rest}", form, seed, None
             continue
         for piece, (at, end) in enumerate(pieces(place, count, CHUNK * units)):
-            reply = answer(form, content, volume, at * sectors, end * sectors, seed)
-            if reply is None:
-                yield "end 11 not-built"
-                return
-            yield f"0 {request} {piece} {form} {at} {end - at}{rest} {reply} @{volume.calls}"
+            line = f"{caller} {request} {piece} {form} {at} {end - at}{rest}"
+            yield caller, line, form, seed, (at * sectors, end * sectors)
+
+
+def answers(requests, content, volume):
+    """The report's lines. Of each caller the first piece that isn't answered is looked at, in the script's order. What
+    can be answered is; else the flushes are, by a commit; else a write waits, for a commit or for a job."""
+    waiting = list(all_pieces(requests))
+    while waiting:
+        firsts = {}
+        for piece in waiting:
+            firsts.setdefault(piece[0], piece)
+        flushes = [piece for piece in firsts.values() if piece[2] == "f"]
+        replies = ((piece, reply(piece, content, volume)) for piece in firsts.values() if piece[2] != "f")
+        served = next(((piece, text) for piece, text in replies if text is not None), None)
+        if served:
+            waiting.remove(served[0])
+            yield f"{served[0][1]} {served[1]} @{volume.calls}"
+        elif flushes:
+            volume.flush()
+            for piece in flushes:
+                waiting.remove(piece)
+                yield f"{piece[1]} done @{volume.calls}"
+        elif volume.limbo:
+            volume.flush()
+        else:
+            volume.reclaim()
     yield "end 0 ok"
+
+
+def reply(piece, content, volume):
+    """The reply to a piece; None where it is a write that finds no zone."""
+    _, _, form, seed, sectors = piece
+    return answer(form, content, volume, *sectors, seed) if sectors else "range"
 
 
 def answer(form, content, volume, first, end, seed):
@@ -154,8 +180,6 @@ def wanted(script, content, volume):
         if why:
             return f"end 2 script {number} {why}\n", 2
         requests.append(request)
-    if any(numbers[0] != 0 for _, numbers in requests):
-        return "end 11 not-built\n", 11
     report = [*answers(requests, content, volume)]
     return "\n".join(report) + "\n", int(report[-1].split()[1])
 
@@ -224,19 +248,20 @@ def slip():
     return " ".join([letters, *fields])
 
 
-def right(chunks):
-    """A request that is right, for the most part inside one of these chunks."""
+def right(callers):
+    """A request of one of so many callers that is right, inside one chunk for the most part."""
     letters = random.choice(["w", "w", "w", "ws", "ws", "d", "r", "rs", "f"])
+    caller = random.choice([0, 63, 7][:callers])
     if letters == "f":
-        return "f 0"
+        return f"f {caller}"
     units = BLOCK_SECTORS if letters in ("rs", "ws") else 1
-    chunk = random.choice(chunks) if letters in ("w", "ws") or random.random() < 0.7 else random.randrange(8)
+    chunk = random.randrange(8)
     first = random.randrange(CHUNK * units)
-    count = random.randint(1, min(CHUNK * units - first, 6 * units))
+    count = random.randint(1, 6 * units if random.random() < 0.2 else min(CHUNK * units - first, 6 * units))
     if letters == "d" and random.random() < 0.3:
         first, count = 0, CHUNK
     seed = f" {random.choice([1, 2, 7, 2**32 - 1])}" if letters in ("w", "ws") else ""
-    return f"{letters} 0 {chunk * CHUNK * units + first} {count}{seed}"
+    return f"{letters} {caller} {chunk * CHUNK * units + first} {count}{seed}"
 
 
 def main():
@@ -265,13 +290,14 @@ def read_back(content):
 
 
 def compare(count, disk, volumes):
-    seen, routes = Counter(), Counter()
+    seen, routes, jobs = Counter(), Counter(), Counter()
     for turn in range(count):
         name, (image, start, tables) = random.choice(list(volumes.items()))
         disk.write_bytes(image)
         content, volume = list(start), Volume(CHUNK, METADATA, CONVENTIONAL, ALL_ZONES, *tables)
+        callers = random.randint(1, 3)
         lines = [slip() for _ in range(random.randint(0, 5))] if turn % 2 else [
-            right(WRITABLE[name]) for _ in range(random.randint(1, 30))]
+            right(callers) for _ in range(random.randint(1, 30))]
         end = "\n" if lines and (turn % 2 == 0 or random.random() < 0.95) else ""
         script = ("\n".join(lines) + end).encode()
         got, want = ran(disk, script), wanted(script, content, volume)
@@ -282,8 +308,11 @@ def compare(count, disk, volumes):
             sys.exit(f"image {name}, script {script!r}\nwanted {want}\ngot {got}")
         seen[name, want[1]] += 1
         routes += volume.routes
+        jobs += volume.jobs
     print("no difference; by volume and status:", dict(sorted(seen.items())))
     print("places of writes:", dict(sorted(routes.items())))
+    print("jobs:", dict(sorted(jobs.items())))
 
 
-main()
+if __name__ == "__main__":
+    main()

@@ -1,6 +1,6 @@
 #!/usr/bin/env bash
-# How long a script takes to be read and parsed: flushes of caller 1, 250,000 lines and doubled twice. So far such
-# a script ends with `end 11 not-built` once it is parsed, so what is timed is all that there is to do.
+# How long a script takes to be read and parsed: flushes, 250,000 lines and doubled twice, and a last line that is
+# refused, so that nothing is run.
 #
 # Usage: bench/scripts.sh, after ./demo, which builds the programs.
 set -eu
@@ -13,7 +13,7 @@ script=$folder/script
 examples/fresh/make "$image"
 TIMEFORMAT='%U s of user time, %R s in all'
 for lines in 250000 500000 1000000; do
-    yes 'f 1' | head -n "$lines" > "$script"
-    took=$({ time { "$program" "$image" "$script" > /dev/null || test $? = 11; }; } 2>&1)
+    { yes 'f 1' | head -n $((lines - 1)); echo 'r 0 0 0'; } > "$script"
+    took=$({ time { "$program" "$image" "$script" > /dev/null || test $? = 2; }; } 2>&1)
     printf '%8d lines: %s\n' "$lines" "$took"
 done

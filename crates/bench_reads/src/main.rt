@@ -4,19 +4,15 @@
 //! image file, or by the bare calls of the disk, in its conventional zones. It prints how many were read.
 #![tactic(auto)]
 
-ghost use Rattle.std.specs.Prelude.{◌≡◌, false, length, Some};
-ghost use Rattle.zd_model.specs.declared.requests.What.TheVariants.{Read};
+ghost use Rattle.std.specs.Prelude.{◌≡◌, length, Some};
 
+use bench_tools::{Asked, answer_all, next_of, words};
 use std::alloc::Global;
 use std::fs::File;
 use std::process::ExitCode;
-use std::{env, io};
-use zd_alone::answer;
 use zd_base::{BLOCK, Geometry, ZoneNo};
 use zd_disk::{FileDisk, ZonedDisk};
-use zd_model::{Piece, What};
 use zd_open::open_volume;
-use zd_state::{Phase, Volume};
 
 /// The sectors of a block.
 const BLOCK_SECTORS: u32 = 8;
@@ -55,82 +51,19 @@ fn read_bare(disk: &mut FileDisk<File>, reads: u32, step: u64) -> u32 {
     done
 }
 
-/// The read of one block.
-fn read_of(block: u64) -> Piece
-    ensures { result ≡ record {
-      caller = 0;
-      request = 1;
-      piece = 0;
-      what = Read block 1;
-      range = false;
-    } }
-{
-    Piece {
-        caller: 0,
-        request: 1,
-        piece: 0,
-        what: What::Read { block, count: 1 },
-        range: false,
-    }
-}
-
-/// Reads a block of the volume, if there is one and the volume can go on.
-fn read_one<D: ZonedDisk>(volume: &mut Volume<D>, alloc: Global, block: u64) -> bool {
-    let blocks = u64::from(volume.layout().chunks) * u64::from(volume.geometry().zone_blocks());
-    if volume.stopped().is_some() || volume.phase() != Phase::Idle || volume.job().is_some() {
-        return false;
-    }
-    if volume.spare() == 0 || block >= blocks {
-        return false;
-    }
-    answer(volume, alloc, &read_of(block)).is_ok()
-}
-
 /// Reads so many blocks of a volume. The answer is how many were read.
-fn read_volume<D: ZonedDisk>(alloc: Global, disk: D, reads: u32, step: u64) -> u32 {
-    let Ok(mut volume) = open_volume(alloc, disk) else {
+fn read_volume<D: ZonedDisk>(alloc: Global, disk: D, reads: u32, step: u64) -> usize {
+    let Ok(volume) = open_volume(alloc, disk) else {
         return 0;
     };
-    if volume.reserve(reads as usize, 0).is_err() {
-        return 0;
+    match answer_all(alloc, volume, Asked::Read, reads, step) {
+        Some(session) => session.volume().history().len(),
+        None => 0,
     }
-    let blocks = u64::from(volume.layout().chunks) * u64::from(volume.geometry().zone_blocks());
-    let mut done = 0u32;
-    let mut at = 0;
-    for _ in 0..reads {
-        if read_one(&mut volume, alloc, at) {
-            done = done.saturating_add(1);
-        }
-        at = next_of(at, step, blocks);
-    }
-    done
-}
-
-/// The next place, round and round among so many.
-fn next_of(at: u64, step: u64, count: u64) -> u64 {
-    if count == 0 {
-        return 0;
-    }
-    let step = step % count;
-    let room = count - at % count;
-    if step < room {
-        at % count + step
-    } else {
-        step - room
-    }
-}
-
-/// The words behind the program's name.
-fn words(rt: &HostRuntime) -> io::Result<Vec<String>> {
-    let mut words = Vec::new(rt.alloc());
-    for word in env::args(rt)?.skip(1) {
-        words.push(word)?;
-    }
-    Ok(words)
 }
 
 /// How many blocks were read, where the words are a command.
-fn measured(rt: &HostRuntime) -> Option<u32> {
+fn measured(rt: &HostRuntime) -> Option<usize> {
     let words = words(rt).ok()?;
     match words.as_slice() {
         [image, reads, step, how] => {
@@ -138,7 +71,7 @@ fn measured(rt: &HostRuntime) -> Option<u32> {
             let reads = reads.parse().ok()?;
             let step = step.parse().ok()?;
             match how.as_str() {
-                "bare" => Some(read_bare(&mut disk, reads, step)),
+                "bare" => Some(read_bare(&mut disk, reads, step) as usize),
                 "volume" => Some(read_volume(rt.alloc(), disk, reads, step)),
                 _ => None,
             }

@@ -1,6 +1,6 @@
 -- What words say.
-use Rattle.std.proofs.Common.{Bool, true, false, ◌≡◌, ℕ, ◌<◌, ◌≤◌, ◌-◌, ◌^◌, List, [], ◌∷◌, ◌++◌, length, map, get_or, IfNone, IfSome, Option, Some, None, Result, Ok, Err, IfOk, IsOk, refl, sym, ap, ◌∙◌, arith}
-use Rattle.std.specs.Prelude.{◌↔◌, IsTrue, codes, not, option_map, slice_get, is_some}
+use Rattle.std.proofs.Common.{Bool, true, false, ◌≡◌, ℕ, ◌<◌, ◌≤◌, ◌-◌, ◌^◌, List, [], ◌∷◌, ◌++◌, drop, length, replicate, subst, map, ap₂, get_or, IfNone, IfSome, Option, Some, None, Result, Ok, Err, IfOk, IsOk, refl, sym, ap, ◌∙◌, arith}
+use Rattle.std.specs.Prelude.{◌≢◌, ◌↔◌, All, IsTrue, not, option_map, slice_get, is_some}
 use Rattle.std.proofs.lemmas.Option.{slice_get-map, slice_get_read}
 use Rattle.std.specs.Result.{result_ok}
 use Rattle.std.specs.Str.{bytes_eq}
@@ -8,9 +8,11 @@ use Rattle.std.proofs.lemmas.Bool.{false≢true}
 use Rattle.std.proofs.lemmas.Slice.Eq.{bytes_eq-Decides}
 use Rattle.std.specs.Str.Parse.{ParsesUnsigned}
 use Rattle.std.proofs.lemmas.Fmt.{parse-decimal}
-use Rattle.std.proofs.lemmas.List.{length-map}
+use Rattle.std.proofs.lemmas.List.{drop-replicate, length-map}
 use Rattle.zd_ports.specs.Words.{is_option}
-use Rattle.zd_admin.specs.Words.{AsksCheck, AsksFormat, IsFormatCommand}
+use Rattle.zd_admin.specs.Words.{AsksAlone, AsksCheck, AsksRelabel, AsksStatus, AsksUpgrade, IsAdminCommand, IsFormatCommand, IsLabel}
+use Rattle.zd_admin.specs.declared.words.Asked.{Asked}
+use Rattle.zd_admin.specs.declared.words.Asked.TheVariants.{Format, Check, Show, Relabel, Upgrade}
 use Rattle.zd_model.specs.Text.{numeral}
 use Rattle.zd_model.proofs.Decimals.{numeral_decimal}
 use Rattle.zd_model.proofs.TextLaws.{same_numeral}
@@ -91,6 +93,9 @@ last_word {X} f ws x some is =
     ∙ slice_get-map f ws (length ws - 1)
     ∙ ap (option_map f) (slice_get_read ws (length ws) (length ws - 1) x refl (omega arith) is)
 
+first_word : (a b p q : List ℕ) → ◌≡◌ {A = List (List ℕ)} (a ∷ b ∷ []) (p ∷ q ∷ []) → a ≡ p
+first_word a b p q e = cc
+
 second : (a b p q : List ℕ) → ◌≡◌ {A = List (List ℕ)} (a ∷ b ∷ []) (p ∷ q ∷ []) → b ≡ q
 second a b p q e = cc
 
@@ -102,27 +107,58 @@ two_words f (k ∷ []) a b least most p q = absurd (omega (arith, least))
 two_words f (k ∷ l ∷ []) a b least most p q = rw (p, q) refl
 two_words f (k ∷ l ∷ m ∷ ws) a b least most p q = absurd (omega (arith, most))
 
--- two words check where they are spelled so
-pub are_check : (words : List (List ℕ)) (check image : List ℕ) (option : Bool) → words ≡ check ∷ image ∷ []
-    → check ≡ codes "--check" → option ≡ is_option image → IsTrue (not option) ↔ AsksCheck words
-are_check words check image option spelled named is = (there, back)
+-- two words are an option and an image where they are spelled so
+pub are_alone : (option : List ℕ) (words : List (List ℕ)) (first image : List ℕ) (starts : Bool) → words ≡ first ∷ image ∷ []
+    → first ≡ option → starts ≡ is_option image → IsTrue (not starts) ↔ AsksAlone option words
+are_alone option words first image starts spelled named is = (there, back)
   where
-    there : IsTrue (not option) → AsksCheck words
+    there : IsTrue (not starts) → AsksAlone option words
     there path = record {
       image = image;
       spelled = spelled ∙ ap (λ (w : List ℕ). w ∷ image ∷ []) named;
-      path = sym is ∙ not_true option path;
+      path = sym is ∙ not_true starts path;
     }
 
-    back : AsksCheck words → IsTrue (not option)
+    back : AsksAlone option words → IsTrue (not starts)
     back h =
-        let same = second check image (codes "--check") h.image (sym spelled ∙ h.spelled) in
+        let same = second first image option h.image (sym spelled ∙ h.spelled) in
         ap not (is ∙ ap is_option same ∙ h.path)
 
--- words that check don't format
-pub asks_one : (words : List (List ℕ)) (reserved : ℕ) (volume : List ℕ) → AsksFormat words reserved volume → AsksCheck words → ⊥
-asks_one words reserved volume a b = let six = ap length a.spelled in let two = ap length b.spelled in omega (arith, six, two)
+-- two words of which the first is another are not
+pub are_not_alone : (option : List ℕ) (words : List (List ℕ)) (first image : List ℕ) (same : Bool) → words ≡ first ∷ image ∷ []
+    → same ≡ false → (first ≡ option → ⊥) → IsTrue same ↔ AsksAlone option words
+are_not_alone option words first image same spelled differs other = (
+  λ yes. absurd (false≢true (sym differs ∙ yes)),
+  λ h. absurd (other (first_word first image option h.image (sym spelled ∙ h.spelled))),
+)
 
 pub where_some : {T : Type 0} (o : Option T) (P : T → Type 0) → is_some o ≡ true → IfSome o P → (x : T) × P x
 where_some None P e h = absurd (false≢true e)
 where_some (Some x) P e h = (x, h)
+
+-- where nothing was found for one reason, it wasn't for another
+pub none_as : {T P Q : Type 0} (o : Option T) → (P → Q) → IfNone o P → IfNone o Q
+none_as None f h = f h
+none_as (Some x) f h = tt
+
+pub not_so : {P : Type 0} (b : Bool) → b ≡ false → (IsTrue b ↔ P) → P → ⊥
+not_so b e h p = false≢true (sym e ∙ h.1 p)
+
+-- words that ask for nothing are no command
+pub no_command : (words : List (List ℕ)) → (AsksCheck words → ⊥) → (AsksStatus words → ⊥)
+    → ((label : List ℕ) → AsksRelabel words label → ⊥) → ((volume : List ℕ) → AsksUpgrade words volume → ⊥)
+    → (IsFormatCommand words → ⊥) → IsAdminCommand words → ⊥
+no_command words check status relabel upgrade format (Format reserved volume, asks) = format (reserved, volume, asks)
+no_command words check status relabel upgrade format (Check, asks) = check asks
+no_command words check status relabel upgrade format (Show, asks) = status asks
+no_command words check status relabel upgrade format (Relabel label, asks) = relabel label asks
+no_command words check status relabel upgrade format (Upgrade volume, asks) = upgrade volume asks
+
+-- a label's bytes, and zeros behind them
+pub is_label_word : (word bytes copied : List ℕ) → bytes ≡ word → (length bytes ≤ 32) × All (λ b. b ≢ 0) bytes → copied ≡ bytes
+    → IsLabel word (copied ++ drop (length bytes) (replicate 32 0))
+is_label_word word bytes copied is label same = record {
+  short = subst (λ (w : List ℕ). length w ≤ 32) is label.0;
+  text = subst (λ (w : List ℕ). All (λ b. b ≢ 0) w) is label.1;
+  value = ap₂ (λ (v w : List ℕ). v ++ w) (same ∙ is) (drop-replicate (length bytes) 32 0 ∙ ap (λ (w : List ℕ). replicate (32 - length w) 0) is);
+}

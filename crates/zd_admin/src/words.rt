@@ -1,10 +1,11 @@
 //! The words of a command.
 
-ghost use Rattle.std.specs.Prelude.{◌≡◌, ◌↔◌, ◌≤◌, ℕ, map, string_bytes, IfNone, IfOk, IfSome, IsTrue, None};
+ghost use Rattle.std.specs.Prelude.{◌≡◌, ◌≢◌, ◌↔◌, ◌≤◌, ℕ, List, All, length, map, string_bytes, IfNone, IfOk, IfSome, IsTrue, None, false};
 ghost use Rattle.std.specs.Option.{option_copied};
 ghost use Rattle.uuid.specs.Text.{parsed};
 ghost use Rattle.zd_model.specs.Text.{numeral};
-ghost use Rattle.zd_admin.specs.Words.{Asks, AsksCheck, IsAdminCommand, IsFormatCommand, NamesImage};
+ghost use Rattle.zd_ports.specs.Words.{is_option};
+ghost use Rattle.zd_admin.specs.Words.{Asks, AsksAlone, AsksRelabel, AsksUpgrade, AsksWith, IsAdminCommand, IsFormatCommand, IsLabel, NamesImage};
 
 use itoa::Buffer;
 use uuid::Uuid;
@@ -13,6 +14,9 @@ use zd_ports::{Paths, is_option};
 
 /// The most reserved zones that a command may ask for.
 const MOST: u32 = 65_536;
+
+/// The bytes of a label.
+pub const LABEL: usize = 32;
 
 /// What a command asks for.
 #[derive(Clone, Copy, Debug, PartialEq, Eq)]
@@ -26,6 +30,18 @@ pub enum Asked {
     },
     /// Whether both sets of metadata are the same.
     Check,
+    /// What the volume is, and how much of it is in use.
+    Show,
+    /// The volume is to have this label.
+    Relabel {
+        /// The label, with zeros after it.
+        label: [u8; LABEL],
+    },
+    /// The volume is to be one of version 2.
+    Upgrade {
+        /// The identifier that it gets.
+        volume: Uuid,
+    },
 }
 
 /// The number of reserved zones that a word writes, without leading zeros.
@@ -55,6 +71,27 @@ fn identifier(word: &str) -> Option<Uuid>
     Uuid::try_parse(word).ok()
 }
 
+/// Whether bytes are a label: at most 32, and none of them zero.
+fn is_label(bytes: &[u8]) -> bool
+    ensures { IsTrue result ↔ ((length bytes.now ≤ 32) × All (λ byte. byte ≢ 0) bytes.now) }
+{
+    bytes.len() <= LABEL && bytes.iter().all(|byte| *byte != 0)
+}
+
+/// The label that a word writes.
+fn label_of(word: &str) -> Option<[u8; LABEL]>
+    ensures some { IfSome result (IsLabel word.now) }
+    ensures none { IfNone result ((label : List ℕ) → IsLabel word.now label → ⊥) }
+{
+    let bytes = word.as_bytes();
+    if !is_label(bytes) {
+        return None;
+    }
+    let mut label = [0; LABEL];
+    label[..bytes.len()].copy_from_slice(bytes);
+    Some(label)
+}
+
 /// What the words ask for, where they are a command that formats.
 fn asked_format(words: &[String]) -> Option<Asked>
     ensures some { IfSome result (Asks (map string_bytes words.now)) }
@@ -75,14 +112,62 @@ fn asked_format(words: &[String]) -> Option<Asked>
     Some(Asked::Format { reserved, volume })
 }
 
-/// Whether the words are a command that checks.
-fn asks_check(words: &[String]) -> bool
-    ensures { IsTrue result ↔ AsksCheck (map string_bytes words.now) }
+/// Whether the words are this option and an image.
+fn asks_alone(option: &str, words: &[String]) -> bool
+    ensures { IsTrue result ↔ AsksAlone option.now (map string_bytes words.now) }
 {
     match words {
-        [check, image] => check.as_str() == "--check" && !is_option(image),
+        [first, image] => first.as_str() == option && !is_option(image),
         _ => false,
     }
+}
+
+/// Whether two words are these options, and a third is no option.
+fn are_options(one: &str, first: &str, two: &str, second: &str, image: &str) -> bool
+    ensures { IsTrue result
+        ↔ ((one.now ≡ first.now) × (two.now ≡ second.now) × (is_option image.now ≡ false)) }
+{
+    let same = one == first && two == second;
+    same && !is_option(image)
+}
+
+/// The value of an option, where the words are a first option, this one with its value, and an image.
+fn value_of<'a>(first: &str, option: &str, words: &'a [String]) -> Option<&'a str>
+    ensures some { IfSome result (λ value. AsksWith first.now option.now value.now (map string_bytes words.now)) }
+    ensures none { IfNone result ((value : List ℕ) →
+        AsksWith first.now option.now value (map string_bytes words.now) → ⊥) }
+{
+    let [one, two, value, image] = words else {
+        return None;
+    };
+    if !are_options(one, first, two, option, image) {
+        return None;
+    }
+    Some(value.as_str())
+}
+
+/// What the words ask for, where they are a command that gives a new label.
+fn asked_relabel(words: &[String]) -> Option<Asked>
+    ensures some { IfSome result (Asks (map string_bytes words.now)) }
+    ensures none { IfNone result ((label : List ℕ) → AsksRelabel (map string_bytes words.now) label → ⊥) }
+{
+    let Some(word) = value_of("--relabel", "--label", words) else {
+        return None;
+    };
+    let label = label_of(word)?;
+    Some(Asked::Relabel { label })
+}
+
+/// What the words ask for, where they are a command that upgrades.
+fn asked_upgrade(words: &[String]) -> Option<Asked>
+    ensures some { IfSome result (Asks (map string_bytes words.now)) }
+    ensures none { IfNone result ((volume : List ℕ) → AsksUpgrade (map string_bytes words.now) volume → ⊥) }
+{
+    let Some(word) = value_of("--upgrade", "--uuid", words) else {
+        return None;
+    };
+    let volume = identifier(word)?;
+    Some(Asked::Upgrade { volume })
 }
 
 /// What the words ask for, where they are a command.
@@ -90,8 +175,17 @@ pub fn command(words: &[String]) -> Option<Asked>
     ensures some { IfSome result (Asks (map string_bytes words.now)) }
     ensures none { IfNone result (IsAdminCommand (map string_bytes words.now) → ⊥) }
 {
-    if asks_check(words) {
+    if asks_alone("--check", words) {
         return Some(Asked::Check);
+    }
+    if asks_alone("--status", words) {
+        return Some(Asked::Show);
+    }
+    if let Some(asked) = asked_relabel(words) {
+        return Some(asked);
+    }
+    if let Some(asked) = asked_upgrade(words) {
+        return Some(asked);
     }
     asked_format(words)
 }

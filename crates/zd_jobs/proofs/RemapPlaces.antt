@@ -147,6 +147,26 @@ module _ (from to : PlainVolume) (w : Work) (fixed : IsFixed from) (is : from.jo
       ∙ place_same u (n / 8 % b) t (entry_of t (n / 8 / b))
       (λ z named. bits_beside from to w fixed is did (n / 8 / b) z (n / 8 % b) off named)
 
+  -- A BLOCK that is valid stays so
+  pub remap_stays : (n : ℕ) → zone_at from.geometry.zone_blocks (tables_now from) n ≢ None
+      → zone_at from.geometry.zone_blocks (tables_now (record from { fresh = to.fresh })) n ≢ None
+  remap_stays n valid = elim (cases_eq (n / 8 / b) w.job.chunk) [
+    | inr off ↦ λ none. valid (sym (beside n off) ∙ none)
+    | inl here ↦
+        let left = leaving_there s fixed.sets from.pointers w job in
+        let some = some_blocks (sets_of from) fixed.sets in
+        let inside : n / 8 % b < b = omega (arith, some) in
+        elim (cases_Bool (is_valid t left.0 (n / 8 % b))) [
+          | inr bare ↦ λ none. valid (
+              ap (λ (c : ℕ). place_in t (entry_of t c) (n / 8 % b)) here
+              ∙ sym (in_chunk n here ∙ stays_put left.0 left.1 (n / 8 % b) inside bare) ∙ none)
+          | inl was ↦
+              let did_copy = was_copied left.0 (n / 8 % b) left.1 inside was in
+              λ none. none_some did_copy.2.0 (sym none ∙ in_chunk n here
+              ∙ at_target left.0 left.1 (n / 8 % b) inside did_copy.2.0 did_copy.2.1 was)
+        ]
+  ]
+
   module _ (base : List (List ℕ)) (r : Image) (now : IsNow from base r) where
     abbrev y : ℕ
     y = (leaving_there s fixed.sets from.pointers w job).0

@@ -17,7 +17,7 @@ later : (u : ZoneUse) (zones : List ZoneUse) → (z : ℕ) × (use_at zones z �
 later u zones rest = (suc rest.0, rest.1)
 
 -- where one counts there is one
-some_free : (zones : List ZoneUse) → 0 < count_by is_free zones → (z : ℕ) × (use_at zones z ≡ Free)
+pub some_free : (zones : List ZoneUse) → 0 < count_by is_free zones → (z : ℕ) × (use_at zones z ≡ Free)
 some_free [] some = absurd (omega (arith, some))
 some_free (Free ∷ zones) some = (0, refl)
 some_free (Meta ∷ zones) some =
@@ -27,7 +27,7 @@ some_free (Held ∷ zones) some =
 some_free (Limbo ∷ zones) some =
     later Limbo zones (some_free zones (let n = sum_by-cons tally Limbo zones in omega (arith, n, some)))
 
-free_inside : (zones : List ZoneUse) (z : ℕ) → use_at zones z ≡ Free → z < length zones
+pub free_inside : (zones : List ZoneUse) (z : ℕ) → use_at zones z ≡ Free → z < length zones
 free_inside zones z is = elim (cases_lt z (length zones)) [
   | inl less ↦ less
   | inr past ↦ absurd (true≢false (sym (ap is_free is) ∙ ap is_free (get_or_past zones z Meta past)))

@@ -74,7 +74,7 @@ module _ (v : PlainVolume) (fixed : IsFixed v) where
       by (Some z) is some = buffered_job c z b (chunk_there c b (inr buffer)) is buffer
 
   -- a chunk on a conventional zone isn't buffered
-  no_buffer : (c z : ℕ) → (entry c).zone ≡ Some z → z < v.geometry.conv → (entry c).buffer ≡ None
+  pub no_buffer : (c z : ℕ) → (entry c).zone ≡ Some z → z < v.geometry.conv → (entry c).buffer ≡ None
   no_buffer c z zone low = by (entry c).buffer refl
     where
       by : (buffer : Option ℕ) → (entry c).buffer ≡ buffer → (entry c).buffer ≡ None
@@ -84,7 +84,7 @@ module _ (v : PlainVolume) (fixed : IsFixed v) where
           (fixed.sets.new_rules.map.buffers c b is).1 in
           absurd (omega (arith, beside, low))
 
-  alone_kind : (c z : ℕ) → (entry c).zone ≡ Some z → z < v.geometry.conv
+  pub alone_kind : (c z : ℕ) → (entry c).zone ≡ Some z → z < v.geometry.conv
       → kind_on v c ≡ kind_alone true (first_valid_block v.geometry.zone_blocks (tables_now v) z)
   alone_kind c z zone low =
       ap₂ (kind_by v.geometry v.pointers (tables_now v)) zone (no_buffer c z zone low)

@@ -1,109 +1,103 @@
--- What closing a volume leaves of it as it was.
-use Rattle.std.proofs.Common.{◌≡◌, sym, ap, ◌∙◌, inl, inr}
+-- What closing a volume leaves of its generation.
+use Rattle.std.proofs.Common.{◌≡◌, ◌⊎◌, ◌+◌, ◌≤◌, ℕ, Bool, true, false, sym, ap, ◌∙◌, subst, inl, inr, arith}
 use Rattle.zd_base.specs.declared.numbers.Why.{Why}
 use Rattle.zd_commit.specs.Closed.{Finishes, IsClosed, IsCommitted, StopsClosing, StopsCommitting}
-use Rattle.zd_volume.specs.Abandons.{IsAbandoned}
+use Rattle.zd_volume.specs.Phases.{end_generation}
 use Rattle.zd_volume.specs.Volumes.{PlainVolume}
 use Rattle.zd_volume.specs.declared.phase.Phase.{Phase}
 use Rattle.zd_volume.specs.declared.phase.Phase.TheVariants.{Idle, Log, LogFlush, LogSuper, LogSuperFlush}
 use Rattle.zd_volume.specs.declared.phase.Phase.TheVariants.{InPlace, InPlaceFlush, InPlaceSuper, InPlaceSuperFlush}
+use Rattle.zd_session.specs.LoneSessions.{rise_of}
 use Rattle.zd_replay.specs.Run.{StopsFor}
 
--- the answers, and the generation of opening
-pub record SameAnswers (from to : PlainVolume) : Type 0 where
-  pub history : to.history ≡ from.history
+-- the generation rose by no more than this, and that of opening stays
+pub record RisesBy (most : ℕ) (from to : PlainVolume) : Type 0 where
   pub opening : to.opening_generation ≡ from.opening_generation
+  pub now : to.head.generation ≤ from.head.generation + most
 
-same_then : (a b c : PlainVolume) → SameAnswers a b → SameAnswers b c → SameAnswers a c
-same_then a b c one two =
-    record { history = two.history ∙ one.history; opening = two.opening ∙ one.opening }
+by_one : (alone : Bool) (g : ℕ) → end_generation alone g ≤ g + 1
+by_one true g = omega arith
+by_one false g = omega arith
 
-same_committed : (from to : PlainVolume) → IsCommitted from to → SameAnswers from to
-same_committed from to done = record {
-  history = ap (λ (v : PlainVolume). v.history) done.rest;
+-- a commit
+rises_committed : (from to : PlainVolume) → IsCommitted from to → RisesBy 1 from to
+rises_committed from to done = record {
   opening = ap (λ (v : PlainVolume). v.opening_generation) done.rest;
+  now = subst (λ (g : ℕ). g ≤ from.head.generation + 1)
+      (sym (ap (λ (v : PlainVolume). v.head.generation) done.rest)) (by_one done.alone from.head.generation);
 }
 
-runs_committed : (from to : PlainVolume) → IsCommitted from to → to.stopped ≡ from.stopped
-runs_committed from to done = ap (λ (v : PlainVolume). v.stopped) done.rest
-
-same_abandoned : (from to : PlainVolume) → IsAbandoned from to → SameAnswers from to
-same_abandoned from to done = record {
-  history = ap (λ (v : PlainVolume). v.history) done.rest;
-  opening = ap (λ (v : PlainVolume). v.opening_generation) done.rest;
+-- one that was under way has ended, or none was
+rises_finished : (a b : PlainVolume) (p : Phase) → Finishes p a b → RisesBy (rise_of p) a b
+rises_finished a b Idle same = record {
+  opening = ap (λ (v : PlainVolume). v.opening_generation) same;
+  now = (let e = ap (λ (v : PlainVolume). v.head.generation) same in omega (arith, e));
 }
-
--- a commit that was under way has ended, or none was
-same_finished : (a b : PlainVolume) (p : Phase) → Finishes p a b → SameAnswers a b × (b.stopped ≡ a.stopped)
-same_finished a b Idle same = (
-  record {
-    history = ap (λ (v : PlainVolume). v.history) same;
-    opening = ap (λ (v : PlainVolume). v.opening_generation) same;
-  },
-  ap (λ (v : PlainVolume). v.stopped) same,
-)
-same_finished a b (Log k) done = (same_committed a b done, runs_committed a b done)
-same_finished a b LogFlush done = (same_committed a b done, runs_committed a b done)
-same_finished a b LogSuper done = (same_committed a b done, runs_committed a b done)
-same_finished a b LogSuperFlush done = (same_committed a b done, runs_committed a b done)
-same_finished a b (InPlace k) done = (same_committed a b done, runs_committed a b done)
-same_finished a b InPlaceFlush done = (same_committed a b done, runs_committed a b done)
-same_finished a b InPlaceSuper done = (same_committed a b done, runs_committed a b done)
-same_finished a b InPlaceSuperFlush done = (same_committed a b done, runs_committed a b done)
+rises_finished a b (Log k) done = rises_committed a b done
+rises_finished a b LogFlush done = rises_committed a b done
+rises_finished a b LogSuper done = rises_committed a b done
+rises_finished a b LogSuperFlush done = rises_committed a b done
+rises_finished a b (InPlace k) done = rises_committed a b done
+rises_finished a b InPlaceFlush done = rises_committed a b done
+rises_finished a b InPlaceSuper done = rises_committed a b done
+rises_finished a b InPlaceSuperFlush done = rises_committed a b done
 
 -- CLOSING
-module _ (from to : PlainVolume) (closed : IsClosed from to) where
-  pub same_closed : SameAnswers from to
-  same_closed =
-      same_then from closed.left to (same_abandoned from closed.left closed.given_up)
-      (same_then closed.left closed.finished to
-      (same_finished closed.left closed.finished closed.left.phase closed.finishes).0
-      (same_committed closed.finished to closed.last))
+pub opening_closed : (from to : PlainVolume) → IsClosed from to → to.opening_generation ≡ from.opening_generation
+opening_closed from to closed =
+    (rises_committed closed.finished to closed.last).opening
+    ∙ (rises_finished closed.left closed.finished closed.left.phase closed.finishes).opening
+    ∙ ap (λ (v : PlainVolume). v.opening_generation) closed.given_up.rest
 
-  pub runs_closed : to.stopped ≡ from.stopped
-  runs_closed =
-      runs_committed closed.finished to closed.last
-      ∙ (same_finished closed.left closed.finished closed.left.phase closed.finishes).1
-      ∙ ap (λ (v : PlainVolume). v.stopped) closed.given_up.rest
-
-  pub idle_closed : to.phase ≡ Idle
-  idle_closed = ap (λ (v : PlainVolume). v.phase) closed.last.rest
-
-  pub committed_closed : to.committed ≡ to.fresh
-  committed_closed =
-      ap (λ (v : PlainVolume). v.committed) closed.last.rest
-      ∙ sym (ap (λ (v : PlainVolume). v.fresh) closed.last.rest)
-
--- a commit that stopped the volume
-same_stopped : (from to : PlainVolume) (why : Why) → StopsCommitting from to why
-    → SameAnswers from to × StopsFor why to
-same_stopped from to Why.Device stops = (
+-- what stops a commit, and with which generation
+stops_committing : (from to : PlainVolume) (why : Why) → StopsCommitting from to why
+    → StopsFor why to × RisesBy 0 from to
+stops_committing from to Why.Device stops = (
+  tt,
   record {
-    history = ap (λ (v : PlainVolume). v.history) stops;
     opening = ap (λ (v : PlainVolume). v.opening_generation) stops;
+    now = (let e = ap (λ (v : PlainVolume). v.head.generation) stops in omega (arith, e));
   },
-  ap (λ (v : PlainVolume). v.stopped) stops,
 )
-same_stopped from to Why.Generation stops = (
-  record {
-    history = ap (λ (v : PlainVolume). v.history) stops.3;
-    opening = ap (λ (v : PlainVolume). v.opening_generation) stops.3;
-  },
-  ap (λ (v : PlainVolume). v.head.generation) stops.3 ∙ stops.2,
-)
-same_stopped from to Why.Memory stops = absurd stops
+stops_committing from to Why.Generation stops =
+    let e : to.head.generation ≡ from.head.generation = ap (λ (v : PlainVolume). v.head.generation) stops.3 in (
+      e ∙ stops.2,
+      record { opening = ap (λ (v : PlainVolume). v.opening_generation) stops.3; now = omega (arith, e) },
+    )
+stops_committing from to Why.Memory stops = absurd stops
 
--- closing that stopped it
-pub same_unclosed : (from to : PlainVolume) (why : Why) → StopsClosing from to why
-    → SameAnswers from to × StopsFor why to
-same_unclosed from to why stops = elim stops.stops [
-  | inl first ↦ (
-      let end = same_stopped stops.left to why first in
-      (same_then from stops.left to (same_abandoned from stops.left stops.given_up) end.0, end.1))
-  | inr last ↦ (
-      let end = same_stopped last.0 to why last.2 in (
-        same_then from stops.left to (same_abandoned from stops.left stops.given_up)
-            (same_then stops.left last.0 to (same_finished stops.left last.0 stops.left.phase last.1).0 end.0),
-        end.1,
-      ))
-]
+-- CLOSING THAT STOPPED: it met the last generation before it had made its own commit
+pub stops_closing : (from to : PlainVolume) (why : Why) → StopsClosing from to why
+    → StopsFor why to × RisesBy (rise_of from.phase) from to
+stops_closing from to why stops = by stops.stops
+  where
+    left : PlainVolume
+    left = stops.left
+
+    phase : left.phase ≡ from.phase
+    phase = ap (λ (v : PlainVolume). v.phase) stops.given_up.rest
+
+    first : left.opening_generation ≡ from.opening_generation
+    first = ap (λ (v : PlainVolume). v.opening_generation) stops.given_up.rest
+
+    same : left.head.generation ≡ from.head.generation
+    same = ap (λ (v : PlainVolume). v.head.generation) stops.given_up.rest
+
+    by : StopsCommitting left to why
+        ⊎ ((finished : PlainVolume) × Finishes left.phase left finished × StopsCommitting finished to why)
+        → StopsFor why to × RisesBy (rise_of from.phase) from to
+    by (inl here) =
+        let end = stops_committing left to why here in
+        let most = end.1.now in (
+          end.0,
+          record { opening = end.1.opening ∙ first; now = omega (arith, most, same) },
+        )
+    by (inr later) =
+        let end = stops_committing later.0 to why later.2 in
+        let most = end.1.now in
+        let rises = rises_finished left later.0 left.phase later.1 in
+        let more = rises.now in
+        let under_way = ap rise_of phase in (
+          end.0,
+          record { opening = end.1.opening ∙ rises.opening ∙ first; now = omega (arith, most, more, same, under_way) },
+        )

@@ -12,7 +12,7 @@ use Rattle.zd_tell.specs.Stages.RunStage.{Words, Script, Opening, Run}
 use Rattle.zd_tell.specs.Telling.{HasStatus, TellsMessage}
 use Rattle.zd_tell.proofs.StageLaws.{told_may_end}
 use Rattle.zd_tell.proofs.TellLaws.{own_status}
-use Rattle.zd_replay.specs.Ends.{ComesCaused, EachStatusTells, EndsOpening, EndsRun, EndsScript, IsFixedRun}
+use Rattle.zd_replay.specs.Ends.{EachStatusTells, EndsOpening, EndsRun, EndsScript, IsFixedRun}
 use Rattle.zd_replay.specs.Ends.{ReplayComes, ReplayEndedBefore, ReplayMayEnd, all_done, no_device, no_generation}
 use Rattle.zd_replay.specs.Ends.{no_memory, replay_telling}
 
@@ -61,6 +61,17 @@ done_by (outcomes.Ended (endings.Stopped whys.Device)) is = absurd (omega (arith
 done_by (outcomes.Ended (endings.Stopped whys.Memory)) is = absurd (omega (arith, is))
 done_by (outcomes.Ended (endings.Stopped whys.Generation)) is = absurd (omega (arith, is))
 
+pub generation_by : (o : Outcome) → outcome_status o ≡ 8 → o ≡ no_generation
+generation_by outcomes.Usage is = absurd (omega (arith, is))
+generation_by outcomes.Source is = absurd (omega (arith, is))
+generation_by (outcomes.BadScript line why) is = absurd (omega (arith, is))
+generation_by outcomes.NotBuilt is = absurd (omega (arith, is))
+generation_by (outcomes.NoVolume kind) is = absurd (omega (arith, is))
+generation_by (outcomes.Ended endings.Ok) is = absurd (omega (arith, is))
+generation_by (outcomes.Ended (endings.Stopped whys.Device)) is = absurd (omega (arith, is))
+generation_by (outcomes.Ended (endings.Stopped whys.Memory)) is = absurd (omega (arith, is))
+generation_by (outcomes.Ended (endings.Stopped whys.Generation)) is = refl
+
 -- none has the status of a failed sink
 never_six : (o : Outcome) → outcome_status o ≡ 6 → ⊥
 never_six outcomes.Usage is = omega (arith, is)
@@ -86,51 +97,45 @@ pub told_device : {status : ℕ} (o : Outcome) → HasStatus (outcome_status o) 
     → o ≡ no_device
 told_device o is four = device_by o (own_status is (λ e. omega (arith, e, four)) (λ e. omega (arith, e, four)) ∙ four)
 
--- before the run an outcome comes for its cause
-pub caused : (stage : RunStage) (o : Outcome) → stage_order stage < 3 → ReplayComes stage o → ComesCaused stage o
-caused stage o less (inl is) = is
-caused stage o less (inr stuck) = (let at = ap stage_order stuck.0 in absurd (omega (arith, at, less)))
+pub told_generation : {status : ℕ} (o : Outcome) → HasStatus (outcome_status o) status ⊎ (status ≡ 7) → status ≡ 8
+    → o ≡ no_generation
+told_generation o is eight =
+    generation_by o (own_status is (λ e. omega (arith, e, eight)) (λ e. omega (arith, e, eight)) ∙ eight)
 
 -- in which stages all may be done, the disk may have failed, and no generation may be left
 pub done_at : (stage : RunStage) → ReplayComes stage all_done → stage ≡ Run
-done_at Words (inl is) = let f = ap outcome_status is in absurd (omega (arith, f))
-done_at Script (inl none) = absurd none
-done_at Opening (inl none) = absurd none
-done_at Run (inl is) = refl
-done_at stage (inr stuck) = stuck.0
+done_at Words is = let f = ap outcome_status is in absurd (omega (arith, f))
+done_at Script none = absurd none
+done_at Opening none = absurd none
+done_at Run is = refl
 
 pub device_at : (stage : RunStage) → ReplayComes stage no_device → 2 ≤ stage_order stage
-device_at Words (inl is) = let f = ap outcome_status is in absurd (omega (arith, f))
-device_at Script (inl none) = absurd none
-device_at Opening (inl is) = omega arith
-device_at Run (inl is) = omega arith
-device_at stage (inr stuck) = let at = ap stage_order stuck.0 in omega (arith, at)
+device_at Words is = let f = ap outcome_status is in absurd (omega (arith, f))
+device_at Script none = absurd none
+device_at Opening is = omega arith
+device_at Run is = omega arith
 
 pub generation_at : (stage : RunStage) → ReplayComes stage no_generation → stage ≡ Run
-generation_at Words (inl is) = let f = ap outcome_status is in absurd (omega (arith, f))
-generation_at Script (inl none) = absurd none
-generation_at Opening (inl none) = absurd none
-generation_at Run (inl is) = refl
-generation_at stage (inr stuck) = stuck.0
+generation_at Words is = let f = ap outcome_status is in absurd (omega (arith, f))
+generation_at Script none = absurd none
+generation_at Opening none = absurd none
+generation_at Run is = refl
 
 pub source_at : (stage : RunStage) → ReplayComes stage outcomes.Source → stage ≡ Script
-source_at Words (inl is) = let f = ap outcome_status is in absurd (omega (arith, f))
-source_at Script (inl is) = refl
-source_at Opening (inl none) = absurd none
-source_at Run (inl none) = absurd none
-source_at stage (inr stuck) = let f = ap outcome_status stuck.1 in absurd (omega (arith, f))
+source_at Words is = let f = ap outcome_status is in absurd (omega (arith, f))
+source_at Script is = refl
+source_at Opening none = absurd none
+source_at Run none = absurd none
 
 -- want of memory for the text may come in a stage, but for the first, whose line is fixed
 pub may_want : (stage : RunStage) (history : List HistoryEntry) (outcome : Outcome) →
     (stage_order stage < 1 → history ≡ []) → ReplayComes stage outcome
     → (IsFixedRun history outcome → ⊥) → ReplayComes stage no_memory
-may_want Words history outcome none (inl is) free =
+may_want Words history outcome none is free =
     absurd (free (none (omega arith), subst IsFixedLine (sym is) tt))
-may_want Script history outcome none (inl is) free = inl tt
-may_want Opening history outcome none (inl is) free = inl tt
-may_want Run history outcome none (inl is) free = inl tt
-may_want stage history outcome none (inr stuck) free =
-    subst (λ (s : RunStage). ReplayComes s no_memory) (sym stuck.0) (inl tt)
+may_want Script history outcome none is free = tt
+may_want Opening history outcome none is free = tt
+may_want Run history outcome none is free = tt
 
 -- the status of a run that ended in a stage and told of it
 pub may_end : {status faults now : ℕ} {held after : Option (List ℕ)} (stage : RunStage)
@@ -145,23 +150,22 @@ may_end {status} stage history outcome none comes t =
 -- the statuses of each stage
 pub words_status : {status : ℕ} → ReplayMayEnd Words status → status ≡ 1
 words_status {status} m =
-    by (subst (λ (o : Outcome). HasStatus (outcome_status o) status) (caused Words m.0 (omega arith) m.1) m.2)
+    by (subst (λ (o : Outcome). HasStatus (outcome_status o) status) m.1 m.2)
   where
     by : HasStatus 1 status → status ≡ 1
     by (inl is) = is
     by (inr six) = absurd (omega (arith, six.1))
 
 script_status : {status : ℕ} (o : Outcome) → EndsScript o → HasStatus (outcome_status o) status →
-    (status ≡ 2) ⊎ ((status ≡ 5) ⊎ ((status ≡ 7) ⊎ (status ≡ 11)))
+    (status ≡ 2) ⊎ ((status ≡ 5) ⊎ (status ≡ 7))
 script_status outcomes.Source e (inl is) = inr (inl is)
 script_status (outcomes.BadScript line why) e (inl is) = inl is
-script_status outcomes.NotBuilt e (inl is) = inr (inr (inr is))
-script_status (outcomes.Ended (endings.Stopped whys.Memory)) e (inl is) = inr (inr (inl is))
+script_status (outcomes.Ended (endings.Stopped whys.Memory)) e (inl is) = inr (inr is)
 script_status outcomes.Source e (inr six) = absurd (omega (arith, six.1))
 script_status (outcomes.BadScript line why) e (inr six) = absurd (omega (arith, six.1))
-script_status outcomes.NotBuilt e (inr six) = absurd (omega (arith, six.1))
 script_status (outcomes.Ended (endings.Stopped whys.Memory)) e (inr six) = absurd (omega (arith, six.1))
 script_status outcomes.Usage e has = absurd e
+script_status outcomes.NotBuilt e has = absurd e
 script_status (outcomes.NoVolume kind) e has = absurd e
 script_status (outcomes.Ended endings.Ok) e has = absurd e
 script_status (outcomes.Ended (endings.Stopped whys.Device)) e has = absurd e
@@ -182,38 +186,24 @@ opening_status outcomes.NotBuilt e has = absurd e
 opening_status (outcomes.Ended endings.Ok) e has = absurd e
 opening_status (outcomes.Ended (endings.Stopped whys.Generation)) e has = absurd e
 
-caused_status : {status : ℕ} (o : Outcome) → EndsRun o → HasStatus (outcome_status o) status → (status ≡ 0) ⊎
+pub run_status : {status : ℕ} (o : Outcome) → EndsRun o → HasStatus (outcome_status o) status → (status ≡ 0) ⊎
     ((status ≡ 6) ⊎ ((status ≡ 7) ⊎ ((status ≡ 4) ⊎ (status ≡ 8))))
-caused_status (outcomes.Ended endings.Ok) e (inl is) = inl is
-caused_status (outcomes.Ended endings.Ok) e (inr six) = inr (inl six.0)
-caused_status (outcomes.Ended (endings.Stopped whys.Memory)) e (inl is) = inr (inr (inl is))
-caused_status (outcomes.Ended (endings.Stopped whys.Memory)) e (inr six) = absurd (omega (arith, six.1))
-caused_status (outcomes.Ended (endings.Stopped whys.Device)) e (inl is) = inr (inr (inr (inl is)))
-caused_status (outcomes.Ended (endings.Stopped whys.Device)) e (inr six) = absurd (omega (arith, six.1))
-caused_status (outcomes.Ended (endings.Stopped whys.Generation)) e (inl is) = inr (inr (inr (inr is)))
-caused_status (outcomes.Ended (endings.Stopped whys.Generation)) e (inr six) = absurd (omega (arith, six.1))
-caused_status outcomes.Usage e has = absurd e
-caused_status outcomes.Source e has = absurd e
-caused_status (outcomes.BadScript line why) e has = absurd e
-caused_status outcomes.NotBuilt e has = absurd e
-caused_status (outcomes.NoVolume kind) e has = absurd e
-
--- a run that is stuck has this one
-pub stuck_status : {status : ℕ} (o : Outcome) → o ≡ outcomes.NotBuilt → HasStatus (outcome_status o) status
-    → status ≡ 11
-stuck_status {status} o is has = by (subst (λ (p : Outcome). HasStatus (outcome_status p) status) is has)
-  where
-    by : HasStatus 11 status → status ≡ 11
-    by (inl own) = own
-    by (inr six) = absurd (omega (arith, six.1))
-
-pub run_status : {status : ℕ} (o : Outcome) → ReplayComes Run o → HasStatus (outcome_status o) status → (status ≡ 11)
-    ⊎ ((status ≡ 0) ⊎ ((status ≡ 6) ⊎ ((status ≡ 7) ⊎ ((status ≡ 4) ⊎ (status ≡ 8)))))
-run_status o (inl e) has = inr (caused_status o e has)
-run_status o (inr stuck) has = inl (stuck_status o stuck.1 has)
+run_status (outcomes.Ended endings.Ok) e (inl is) = inl is
+run_status (outcomes.Ended endings.Ok) e (inr six) = inr (inl six.0)
+run_status (outcomes.Ended (endings.Stopped whys.Memory)) e (inl is) = inr (inr (inl is))
+run_status (outcomes.Ended (endings.Stopped whys.Memory)) e (inr six) = absurd (omega (arith, six.1))
+run_status (outcomes.Ended (endings.Stopped whys.Device)) e (inl is) = inr (inr (inr (inl is)))
+run_status (outcomes.Ended (endings.Stopped whys.Device)) e (inr six) = absurd (omega (arith, six.1))
+run_status (outcomes.Ended (endings.Stopped whys.Generation)) e (inl is) = inr (inr (inr (inr is)))
+run_status (outcomes.Ended (endings.Stopped whys.Generation)) e (inr six) = absurd (omega (arith, six.1))
+run_status outcomes.Usage e has = absurd e
+run_status outcomes.Source e has = absurd e
+run_status (outcomes.BadScript line why) e has = absurd e
+run_status outcomes.NotBuilt e has = absurd e
+run_status (outcomes.NoVolume kind) e has = absurd e
 
 -- no status is one of the script and of what comes later
-apart : {status : ℕ} → (status ≡ 2) ⊎ ((status ≡ 5) ⊎ ((status ≡ 7) ⊎ (status ≡ 11)))
+apart : {status : ℕ} → (status ≡ 2) ⊎ ((status ≡ 5) ⊎ (status ≡ 7))
     → (status ≡ 0) ⊎ ((status ≡ 3) ⊎ ((status ≡ 4) ⊎ (status ≡ 6))) → ⊥
 apart s e = grind arith
 
@@ -224,25 +214,25 @@ not_one one e = grind arith
 pub early_other : {status : ℕ} (stage : RunStage) → stage_order stage < 2 → ReplayMayEnd stage status
     → (status ≡ 0) ⊎ ((status ≡ 3) ⊎ ((status ≡ 4) ⊎ (status ≡ 6))) → ⊥
 early_other Words early m = not_one (words_status m)
-early_other Script early m = apart (script_status m.0 (caused Script m.0 (omega arith) m.1) m.2)
+early_other Script early m = apart (script_status m.0 m.1 m.2)
 early_other Opening early m = absurd (omega (arith, early))
 early_other Run early m = absurd (omega (arith, early))
 
 early : {status : ℕ} → (status ≡ 1) ⊎ (status ≡ 2) ⊎ (status ≡ 5) → (status ≡ 0) ⊎ ((status ≡ 3)
-    ⊎ ((status ≡ 4) ⊎ ((status ≡ 6) ⊎ ((status ≡ 7) ⊎ ((status ≡ 8) ⊎ (status ≡ 11)))))) → ⊥
+    ⊎ ((status ≡ 4) ⊎ ((status ≡ 6) ⊎ ((status ≡ 7) ⊎ (status ≡ 8))))) → ⊥
 early e s = grind arith
 
 late : {status : ℕ} (stage : RunStage) → 2 ≤ stage_order stage → ReplayMayEnd stage status
     → (status ≡ 0) ⊎ ((status ≡ 3)
-    ⊎ ((status ≡ 4) ⊎ ((status ≡ 6) ⊎ ((status ≡ 7) ⊎ ((status ≡ 8) ⊎ (status ≡ 11))))))
+    ⊎ ((status ≡ 4) ⊎ ((status ≡ 6) ⊎ ((status ≡ 7) ⊎ (status ≡ 8)))))
 late Words past m = absurd (omega (arith, past))
 late Script past m = absurd (omega (arith, past))
 late Opening past m =
-    (let s = opening_status m.0 (caused Opening m.0 (omega arith) m.1) m.2 in grind (arith, s))
+    (let s = opening_status m.0 m.1 m.2 in grind (arith, s))
 late Run past m = (let s = run_status m.0 m.1 m.2 in grind (arith, s))
 
 -- one that tells of the run isn't one of a run that ended before
-not_early : {status : ℕ} → (status ≡ 2) ⊎ ((status ≡ 5) ⊎ ((status ≡ 7) ⊎ (status ≡ 11)))
+not_early : {status : ℕ} → (status ≡ 2) ⊎ ((status ≡ 5) ⊎ (status ≡ 7))
     → (status ≡ 0) ⊎ (status ≡ 6) ⊎ (status ≡ 8) → ⊥
 not_early s e = grind arith
 
@@ -256,8 +246,8 @@ not_opening s e = grind arith
 before_run : {status : ℕ} (stage : RunStage) → stage_order stage < 3 → ReplayMayEnd stage status
     → (status ≡ 0) ⊎ (status ≡ 6) ⊎ (status ≡ 8) → ⊥
 before_run Words less m e = not_usage (words_status m) e
-before_run Script less m e = not_early (script_status m.0 (caused Script m.0 less m.1) m.2) e
-before_run Opening less m e = not_opening (opening_status m.0 (caused Opening m.0 less m.1) m.2) e
+before_run Script less m e = not_early (script_status m.0 m.1 m.2) e
+before_run Opening less m e = not_opening (opening_status m.0 m.1 m.2) e
 before_run Run less m e = absurd (omega (arith, less))
 
 -- a run that came to its last stage has no status of a refusal

@@ -1,5 +1,6 @@
 -- How a run ends: in which stage, for which cause, and which object tells that cause.
-use Rattle.std.specs.Prelude.{◌≡◌, ◌⊎◌, ◌<◌, ℕ, IsTrue, IsSome, Option, List, []}
+use Rattle.std.specs.Prelude.{◌≡◌, ◌⊎◌, ◌<◌, ℕ, IsTrue, IsSome, Option, None, Some, List, []}
+use Rattle.zd_base.specs.declared.numbers.Why.{Why}
 use Rattle.zd_base.specs.declared.numbers.Why.TheVariants as whys
 use Rattle.zd_disk.specs.Told.{WhereTold}
 use Rattle.zd_examine.specs.Examined.{ExplainsRefusal}
@@ -8,7 +9,7 @@ use Rattle.zd_examine.specs.declared.examining.OpenFault.TheVariants as opens
 use Rattle.zd_model.specs.History.{HistoryEntry}
 use Rattle.zd_model.specs.Image.{Image}
 use Rattle.zd_model.specs.Report.{outcome_status, run_output}
-use Rattle.zd_model.specs.Script.{RefusesScript}
+use Rattle.zd_model.specs.Script.{IsScript, RefusesScript}
 use Rattle.zd_model.specs.Volume.{WellFormed}
 use Rattle.zd_model.specs.declared.requests.Ending.TheVariants as endings
 use Rattle.zd_model.specs.declared.requests.Request.{Request}
@@ -22,16 +23,15 @@ use Rattle.zd_script.specs.declared.fault.ScriptFault.TheVariants as scripts
 use Rattle.zd_tell.specs.Stages.{CameTo, CausesExclude, Course, EndedBefore, EndsIn, MayEnd, RunStage, stage_order}
 use Rattle.zd_tell.specs.Stages.RunStage.{Words, Script, Opening, Run}
 use Rattle.zd_tell.specs.Telling.{Telling}
-use Rattle.zd_replay.specs.Built.{IsBuiltScript, IsUnbuiltScript}
 use Rattle.zd_replay.specs.Words.{is_command}
 
 -- the words are a command
 abbrev pub IsReplayCommand : List (List ℕ) → Type 0
 IsReplayCommand words = IsTrue (is_command words)
 
--- the bytes are a script that can be run
-abbrev pub IsRunnable : List ℕ → Type 0
-IsRunnable bytes = (plan : List Request) × IsBuiltScript bytes plan
+-- the bytes are the script of some plan
+abbrev pub IsScriptOfSome : List ℕ → Type 0
+IsScriptOfSome bytes = (plan : List Request) × IsScript bytes plan
 
 -- the answer of opening that tells so
 abbrev pub fault_of : NoVolume → OpenFault
@@ -58,7 +58,6 @@ all_done = outcomes.Ended endings.Ok
 abbrev pub EndsScript : Outcome → Type 0
 EndsScript outcomes.Source = Unit {0}
 EndsScript (outcomes.BadScript line why) = Unit {0}
-EndsScript outcomes.NotBuilt = Unit {0}
 EndsScript (outcomes.Ended (endings.Stopped whys.Memory)) = Unit {0}
 EndsScript outcome = ⊥
 
@@ -72,25 +71,17 @@ abbrev pub EndsRun : Outcome → Type 0
 EndsRun (outcomes.Ended ending) = Unit {0}
 EndsRun outcome = ⊥
 
--- in which stages an outcome comes for its cause
-abbrev pub ComesCaused : RunStage → Outcome → Type 0
-ComesCaused Words outcome = outcome ≡ outcomes.Usage
-ComesCaused Script outcome = EndsScript outcome
-ComesCaused Opening outcome = EndsOpening outcome
-ComesCaused Run outcome = EndsRun outcome
-
--- A run came to a write for which no conventional zone is free: so far none is freed for it
-abbrev pub ComesStuck : RunStage → Outcome → Type 0
-ComesStuck stage outcome = (stage ≡ Run) × (outcome ≡ outcomes.NotBuilt)
-
 -- in which stages an outcome may come
 abbrev pub ReplayComes : RunStage → Outcome → Type 0
-ReplayComes stage outcome = ComesCaused stage outcome ⊎ ComesStuck stage outcome
+ReplayComes Words outcome = outcome ≡ outcomes.Usage
+ReplayComes Script outcome = EndsScript outcome
+ReplayComes Opening outcome = EndsOpening outcome
+ReplayComes Run outcome = EndsRun outcome
 
 -- what holds where a stage was passed, as far as the object tells that it is about; the run is the last
 abbrev pub ReplayPassed : List (List ℕ) → Option (List ℕ) → Option Image → RunStage → Type 0
 ReplayPassed words left zones Words = IsReplayCommand words
-ReplayPassed words left zones Script = WhereTold left IsRunnable
+ReplayPassed words left zones Script = WhereTold left IsScriptOfSome
 ReplayPassed words left zones Opening = WhereTold zones WellFormed
 ReplayPassed words left zones Run = ⊥
 
@@ -100,40 +91,30 @@ abbrev pub ReplayCause : List (List ℕ) → Option (List ℕ) → Option Image 
 ReplayCause words left zones outcomes.Usage = IsReplayCommand words → ⊥
 ReplayCause words left zones (outcomes.BadScript line why) =
     WhereTold left (λ bytes. RefusesScript bytes line why)
-ReplayCause words left zones outcomes.NotBuilt =
-    WhereTold left (λ bytes. (plan : List Request) × IsUnbuiltScript bytes plan)
 ReplayCause words left zones (outcomes.NoVolume kind) = WhereTold zones (ExplainsRefusal (fault_of kind))
 ReplayCause words left zones outcome = Unit {0}
 
 -- the runs by these words, where the source tells these bytes, and the disk these zones
 abbrev pub replay_course : List (List ℕ) → Option (List ℕ) → Option Image → Course Outcome
 replay_course words left zones = record {
-  Comes = ComesCaused;
+  Comes = ReplayComes;
   Passed = ReplayPassed words left zones;
   Cause = ReplayCause words left zones;
 }
 
--- the stages before this one were passed
-abbrev pub HasPassed : List (List ℕ) → Option (List ℕ) → Option Image → RunStage → Type 0
-HasPassed words left zones stage = (s : RunStage) → stage_order s < stage_order stage →
-    ReplayPassed words left zones s
-
--- HOW A RUN ENDS: with the cause of its outcome, or stuck, and it passed the stages before
+-- HOW A RUN ENDS: with the cause of its outcome, and it passed the stages before
 abbrev pub ReplayEnds : List (List ℕ) → Option (List ℕ) → Option Image → RunStage → Outcome → Type 0
-ReplayEnds words left zones stage outcome =
-    EndsIn (replay_course words left zones) stage outcome
-    ⊎ (ComesStuck stage outcome × HasPassed words left zones stage)
+ReplayEnds words left zones = EndsIn (replay_course words left zones)
 
 -- such a run ends so before its disk is opened, whatever the disk tells
 abbrev pub EndsUnread : List (List ℕ) → Option (List ℕ) → Outcome → Type 0
 EndsUnread words left outcome = (stage : RunStage) × (stage_order stage < stage_order Opening)
-    × ((zones : Option Image) → EndsIn (replay_course words left zones) stage outcome)
+    × ((zones : Option Image) → ReplayEnds words left zones stage outcome)
 
 -- the outcomes that words, script and image decide, and no count of faults and no memory
 abbrev pub IsReplayDecided : Outcome → Type 0
 IsReplayDecided outcomes.Usage = Unit {0}
 IsReplayDecided (outcomes.BadScript line why) = Unit {0}
-IsReplayDecided outcomes.NotBuilt = Unit {0}
 IsReplayDecided (outcomes.NoVolume kind) = Unit {0}
 IsReplayDecided (outcomes.Ended endings.Ok) = Unit {0}
 IsReplayDecided outcome = ⊥
@@ -185,11 +166,11 @@ open_outcome (opens.BadBits zone block) = outcomes.NoVolume (volumes.BadBits zon
 open_outcome opens.Device = no_device
 open_outcome opens.Memory = no_memory
 
--- a volume was opened, and closed again
-abbrev pub ClosesVolume : Outcome → Type 0
-ClosesVolume (outcomes.Ended endings.Ok) = Unit {0}
-ClosesVolume outcomes.NotBuilt = Unit {0}
-ClosesVolume outcome = ⊥
+-- what stopped a run, where something did
+abbrev pub stop_of : Outcome → Option Why
+stop_of (outcomes.Ended endings.Ok) = None
+stop_of (outcomes.Ended (endings.Stopped why)) = Some why
+stop_of outcome = None
 
 -- how a run ends whose script can't be read
 abbrev pub script_outcome : ScriptFault → Outcome
@@ -198,7 +179,7 @@ script_outcome scripts.Source = outcomes.Source
 script_outcome scripts.Memory = no_memory
 
 -- What statuses tell of the stages: 0, 6 and 8 that the run came to its last one, 3 and 4 that it came to
--- opening, 1, 2 and 5 that it ended before. 7 and 11 tell none.
+-- opening, 1, 2 and 5 that it ended before. 7 tells none.
 pub record StatusesTell (status : ℕ) : Type 0 where
   pub run : (status ≡ 0) ⊎ (status ≡ 6) ⊎ (status ≡ 8) → ReplayCameTo Run status
   pub opening : (status ≡ 3) ⊎ (status ≡ 4) → ReplayCameTo Opening status

@@ -1,117 +1,56 @@
 //! The run of a plan over a volume that was opened.
 
-ghost use Rattle.std.specs.Prelude.{◌≡◌, ◌↔◌, [], None, IsTrue};
-ghost use Rattle.zd_alone.specs.Alone.{IsAtRest};
-ghost use Rattle.zd_replay.specs.Built.{IsBuiltPlan};
-ghost use Rattle.zd_model.specs.declared.requests.Ending.{Ending};
-ghost use Rattle.zd_model.specs.declared.texts.Outcome.TheVariants as outcomes;
-ghost use Rattle.zd_replay.specs.Ends.{ClosesVolume};
-ghost use Rattle.zd_replay.specs.Run.{AnswersFirst, ClosesAs, EndsPlan, IsLongest, IsWriteInside, RunsPlan};
+ghost use Rattle.std.specs.Prelude.{◌≡◌};
+ghost use Rattle.zd_plain.specs.Plan.{IsPlan};
+ghost use Rattle.zd_replay.specs.Run.{RunsInTime, RunsPlan};
+ghost use Rattle.zd_session.specs.SessionEnds.{IsHistoryOf};
+ghost use Rattle.zd_session.specs.LoneSessions.{IsFreshVolume};
 
+use crate::report::RunOutput;
 use std::alloc::Global;
-use zd_alone::{Halt, run};
 use zd_base::{Memory, Why};
-use zd_commit::close;
 use zd_disk::ZonedDisk;
-use zd_model::{Outcome, Piece, What};
-use zd_plain::{Ending, Plan, pieces};
+use zd_model::Outcome;
+use zd_plain::{Ending, History, Plan};
+use zd_session::Session;
 use zd_state::Volume;
 
-/// Whether a piece is a write in range.
-fn is_write_inside(piece: &Piece) -> bool
-    ensures { IsTrue result ↔ IsWriteInside piece.now }
+/// What a volume is left with that no session runs: what stands in its history, and its disk.
+fn parts_of<D: ZonedDisk>(volume: Volume<D>) -> (History, D)
+    ensures history { result.0.items ≡ volume.plain.history }
+    ensures disk { result.1 ≡ volume.disk }
+    ensures shown { IsHistoryOf volume.plain volume.plain.history (D.view volume.opening) (D.view volume.disk) }
 {
-    match piece.what {
-        What::Write { .. } | What::WriteSectors { .. } => !piece.range,
-        What::Read { .. } | What::ReadSectors { .. } | What::Discard { .. } | What::Flush => false,
-    }
+    volume.shows();
+    volume.counts();
+    volume.serves();
+    volume.safe();
+    volume.into_parts()
 }
 
-/// The greatest number of blocks of a write in range.
-fn longest_write(pieces: &[Piece]) -> u32
-    ensures { IsLongest pieces.now result }
-{
-    let mut longest = 0;
-    for piece in pieces {
-        if is_write_inside(piece) {
-            longest = longest.max(piece.cover().1);
-        }
-    }
-    longest
-}
-
-/// How a run ends that was stopped.
-fn stopped(why: Why) -> Outcome
-    ensures { result ≡ outcomes.Ended (Ending.Stopped why) }
-{
-    Outcome::Ended(Ending::Stopped(why))
-}
-
-/// Closes a volume whose run is to end so, unless closing stops.
-fn close_after<D: ZonedDisk>(v: &mut Volume<D>, outcome: Outcome) -> Outcome
-    requires running { v.old.plain.stopped ≡ None }
-    ensures closes { ClosesAs v.old.plain v.new.plain (D.view v.new.disk) outcome result }
-    ensures opening { v.new.opening ≡ v.old.opening }
-{
-    match close(v) {
-        Ok(()) => outcome,
-        Err(why) => stopped(why),
-    }
-}
-
-/// Answers the pieces of a plan, and closes the volume. It is closed too where a write finds no zone.
+/// Runs a plan over a volume that has answered nothing yet, by one actor, until all is done or something stops
+/// it; and closes the volume where nothing has. What was answered, how the run ended, and the disk.
 ///
-/// No memory may be found for the pieces, for their entries or for the blocks of a write, before anything is
-/// answered. Else what stops it stopped `run` or `close`.
-fn answer_all<D: ZonedDisk>(alloc: Global, v: &mut Volume<D>, plan: &Plan) -> Outcome
-    requires plan { IsBuiltPlan plan.now }
-    requires ready { IsAtRest v.old.plain }
-    requires new { v.old.plain.history ≡ [] }
-    ensures first { AnswersFirst plan.now v.old.plain v.new.plain }
-    ensures ends { EndsPlan plan.now v.old.plain v.new.plain (D.view v.new.disk) result }
-    ensures opening { v.new.opening ≡ v.old.opening }
+/// No memory may be found for the session, before anything is answered.
+pub fn run_plan<D: ZonedDisk>(alloc: Global, volume: Volume<D>, plan: Plan) -> (RunOutput, D)
+    requires plan { IsPlan plan }
+    requires fresh { IsFreshVolume volume }
+    ensures runs { RunsPlan plan result.0.outcome result.0.history.items volume.plain
+        (D.view volume.opening) (D.view result.1) }
+    ensures timely { RunsInTime plan result.0.outcome result.0.history.items volume.plain }
 {
-    v.sound();
-    let zone_blocks = v.geometry().zone_blocks();
-    let blocks = u64::from(v.layout().chunks) * u64::from(zone_blocks);
-    let Ok(pieces) = pieces(alloc, plan, zone_blocks, blocks) else {
-        return stopped(Why::Memory);
+    volume.sound();
+    let mut session = match Session::begin(alloc, volume, plan, 1) {
+        Ok(session) => session,
+        Err((Memory, volume)) => {
+            let (history, disk) = parts_of(volume);
+            let outcome = Outcome::Ended(Ending::Stopped(Why::Memory));
+            return (RunOutput { history, outcome }, disk);
+        }
     };
-    if let Err(Memory) = v.reserve(pieces.len(), longest_write(&pieces)) {
-        return stopped(Why::Memory);
-    }
-    match run(v, alloc, &pieces) {
-        Ok(()) => close_after(v, Outcome::Ended(Ending::Ok)),
-        Err(Halt::NoZone) => close_after(v, Outcome::NotBuilt),
-        Err(Halt::Stopped(why)) => stopped(why),
-    }
-}
-
-/// Whether the volume of a run that ended so is closed.
-fn closes_volume(outcome: &Outcome) -> bool
-    ensures { IsTrue result ↔ ClosesVolume outcome.now }
-{
-    matches!(outcome, Outcome::Ended(Ending::Ok) | Outcome::NotBuilt)
-}
-
-/// Runs a plan over a volume that has answered nothing yet. The volume says what its replies are, what a stop
-/// leaves and which faults are told, at any ending.
-pub fn run_plan<D: ZonedDisk>(alloc: Global, v: &mut Volume<D>, plan: &Plan) -> Outcome
-    requires plan { IsBuiltPlan plan.now }
-    requires ready { IsAtRest v.old.plain }
-    requires new { v.old.plain.history ≡ [] }
-    ensures runs { RunsPlan plan.now result v.old.plain v.new.plain
-        (D.view v.old.opening) (D.view v.new.disk) }
-    ensures opening { v.new.opening ≡ v.old.opening }
-{
-    v.sound();
-    let outcome = answer_all(alloc, v, plan);
-    v.shows();
-    v.counts();
-    v.serves();
-    v.safe();
-    if closes_volume(&outcome) {
-        v.closed();
-    }
-    outcome
+    session.run_alone();
+    session.volume().calm();
+    let (history, disk, ending) = session.finish();
+    let outcome = Outcome::Ended(ending);
+    (RunOutput { history, outcome }, disk)
 }

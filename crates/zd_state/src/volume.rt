@@ -1,11 +1,11 @@
 //! A volume over its disk.
 
-ghost use Rattle.std.specs.Prelude.{◌≡◌, ◌-◌, ◌<◌, ◌^◌, ℕ};
+ghost use Rattle.std.specs.Prelude.{◌≡◌, ◌-◌, ◌<◌, ◌^◌, None, ℕ};
 ghost use Rattle.zd_disk.specs.Moments.{AtEach};
 ghost use Rattle.zd_disk.specs.Told.{WhereTold};
 ghost use Rattle.zd_model.specs.Safe.{IsSafe, base_at};
 ghost use Rattle.zd_model.specs.Image.{Image};
-ghost use Rattle.zd_volume.specs.FaultCounts.{TellsFaults};
+ghost use Rattle.zd_volume.specs.FaultCounts.{AreCalm, TellsFaults};
 ghost use Rattle.zd_volume.specs.Volumes.{CountsSince, IsFixed};
 
 use crate::state::VolumeState;
@@ -58,6 +58,13 @@ impl<D: ZonedDisk> Volume<D> {
         ensures calls { CountsSince self.now.plain (D.view self.now.opening).calls (D.view self.now.disk).calls }
         ensures faults { TellsFaults self.now.plain.history self.now.plain.stopped
             (D.view self.now.opening).faults (D.view self.now.disk).faults }
+    {
+        let _state = &self.state;
+    }
+
+    /// While it goes on, no entry but a read's is told as a fault: a write that the disk refused has stopped it.
+    pub fn calm(&self)
+        ensures { self.now.plain.stopped ≡ None → AreCalm self.now.plain.history }
     {
         let _state = &self.state;
     }

@@ -24,8 +24,7 @@ before_from p q (inl l) =
     or_left (ltb q.request p.request) (eqb q.request p.request && ltb q.piece p.piece) (lt-ltb q.request p.request l)
 before_from p q (inr b) =
     or_right (ltb q.request p.request) (eqb q.request p.request && ltb q.piece p.piece)
-    (and_from (eqb q.request p.request) (ltb q.piece p.piece) (eq-eqb q.request p.request b.0)
-    (lt-ltb q.piece p.piece b.1))
+    (and_from (eqb q.request p.request) (ltb q.piece p.piece) (eq-eqb q.request p.request b.0) (lt-ltb q.piece p.piece b.1))
 
 before_tells : (p q : Piece) → is_before p q ≡ true → Precedes q p
 before_tells p q h = elim (or_cases (ltb q.request p.request) (eqb q.request p.request && ltb q.piece p.piece) h) [
@@ -48,8 +47,7 @@ not_itself p (inr b) = let l = b.1 in omega (arith, l)
 lower : (pieces : List Piece) → AreInOrder pieces → (i j : ℕ) (p q : Piece) → slice_get pieces i ≡ Some p
     → slice_get pieces j ≡ Some q → Precedes q p → j < i
 lower pieces order i j p q at_i at_j before = elim (cases_order j i) [
-  | inl same ↦ absurd
-      (not_itself p (subst (λ x. Precedes x p) (same_Some q p (sym at_j ∙ ap (slice_get pieces) same ∙ at_i)) before))
+  | inl same ↦ absurd (not_itself p (subst (λ x. Precedes x p) (same_Some q p (sym at_j ∙ ap (slice_get pieces) same ∙ at_i)) before))
   | inr apart ↦ (elim apart [
     | inl l ↦ l
     | inr l ↦ absurd (not_both q p before (order i j p q l at_i at_j))
@@ -90,16 +88,14 @@ free_nowhere z flights = false_from_ne_true (list_any (is_flight_on z None) flig
 
 pub flush_free : (z : ℕ) (flights : List (Option Piece)) (p : Piece) → flushes p ≡ true → is_held_in z flights p ≡ false
 flush_free z flights p f =
-    ap (λ c. list_any (is_flight_on z c) flights)
-    (cond-true (flushes p || p.range) None (Some (first_block p.what / z)) (or_left (flushes p) p.range f))
+    ap (λ c. list_any (is_flight_on z c) flights) (cond-true (flushes p || p.range) None (Some (first_block p.what / z)) (or_left (flushes p) p.range f))
     ∙ free_nowhere z flights
 
 -- of four tests the last is what counts, where the first three hold
 four_true : (a b c d : Bool) → a ≡ false → b ≡ false → c ≡ false → (not a && not b && not c && d) ≡ d
 four_true a b c d e f g = rw (e, f, g) refl
 
-module _ (q : QueueState) (is : IsQueue q.chunk_blocks q.callers q.flights) (entered : List Mark)
-    (before : HasEntered q.callers entered) where
+module _ (q : QueueState) (is : IsQueue q.chunk_blocks q.callers q.flights) (entered : List Mark) (before : HasEntered q.callers entered) where
   abbrev h : Callers
   h = q.callers
 
@@ -121,8 +117,7 @@ module _ (q : QueueState) (is : IsQueue q.chunk_blocks q.callers q.flights) (ent
           same ∙ ap (λ y. head_of h y.caller) (sym one),
           in-any (is_flight_on q.chunk_blocks (chunk_of q.chunk_blocks p)) (Some x) q.flights there
               (same_chunk (chunk_of q.chunk_blocks p) (chunk_of q.chunk_blocks x) (first_block x.what / q.chunk_blocks)
-              (ap (chunk_of q.chunk_blocks) one ∙ on_chunk q.chunk_blocks h x flying)
-              (on_chunk q.chunk_blocks h x flying)),
+              (ap (chunk_of q.chunk_blocks) one ∙ on_chunk q.chunk_blocks h x flying) (on_chunk q.chunk_blocks h x flying)),
         )
 
     pub flies_first : (i : ℕ) → slice_get h.pieces i ≡ Some p → flies_in q.flights p ≡ true
@@ -140,22 +135,17 @@ module _ (q : QueueState) (is : IsQueue q.chunk_blocks q.callers q.flights) (ent
         let caller : x.caller ≡ p.caller = is.heads.own p.caller x at_k in
         let decides = entered_decides h entered is.script.order before k x at_k in
         let level : head_of h x.caller ≡ k = ap (head_of h) caller in
-        let out : is_entered r x ≡ false = false_from_ne_true (is_entered r x)
-        (λ e. let low = decides.0 e in omega (arith, low, level)) in
+        let out : is_entered r x ≡ false = false_from_ne_true (is_entered r x) (λ e. let low = decides.0 e in omega (arith, low, level)) in
         let first : (eqb x.caller p.caller && is_before p x) ≡ true =
-        and_from (eqb x.caller p.caller) (is_before p x) (eq-eqb x.caller p.caller caller)
-        (before_from p x (is.script.order k i x p high at_k at)) in
+        and_from (eqb x.caller p.caller) (is_before p x) (eq-eqb x.caller p.caller caller) (before_from p x (is.script.order k i x p high at_k at)) in
         in-any (holds_back r p) x h.pieces (place-in x h.pieces k at_k)
-        (and_from (eqb x.caller p.caller && is_before p x) (not (is_entered r x)) first
-        (not_from_false (is_entered r x) out))
+        (and_from (eqb x.caller p.caller && is_before p x) (not (is_entered r x)) first (not_from_false (is_entered r x) out))
 
     -- no eligible piece stands behind its caller's head, or before
     pub eligible_first : is_eligible r p ≡ true → i ≡ head_of h p.caller
     eligible_first e =
-        let all = and_parts (not (is_entered r p) && not (flies r p) && not (list_any (holds_back r p) h.pieces))
-        (not (is_held r p)) e in
-        let three = and_parts (not (is_entered r p) && not (flies r p))
-        (not (list_any (holds_back r p) h.pieces)) all.0 in
+        let all = and_parts (not (is_entered r p) && not (flies r p) && not (list_any (holds_back r p) h.pieces)) (not (is_held r p)) e in
+        let three = and_parts (not (is_entered r p) && not (flies r p)) (not (list_any (holds_back r p) h.pieces)) all.0 in
         let two = and_parts (not (is_entered r p)) (not (flies r p)) three.0 in
         let out : is_entered r p ≡ false = not-true (is_entered r p) two.0 in
         let none : list_any (holds_back r p) h.pieces ≡ false = not-true (list_any (holds_back r p) h.pieces) three.1 in
@@ -190,11 +180,8 @@ module _ (q : QueueState) (is : IsQueue q.chunk_blocks q.callers q.flights) (ent
       -- a first piece is eligible exactly where no piece is in flight on its chunk
       pub first_eligible : is_eligible r p ≡ not (is_held r p)
       first_eligible = elim (cases_Bool (is_held r p)) [
-        | inl held ↦
-            (and_right (not (is_entered r p) && not (flies r p) && not (list_any (holds_back r p) h.pieces))
-            (not (is_held r p)) (not_from_true (is_held r p) held)
+        | inl held ↦ (and_right (not (is_entered r p) && not (flies r p) && not (list_any (holds_back r p) h.pieces)) (not (is_held r p)) (not_from_true (is_held r p) held)
             ∙ sym (not_from_true (is_held r p) held))
-        | inr free ↦
-            (four_true (is_entered r p) (flies r p) (list_any (holds_back r p) h.pieces) (not (is_held r p)) not_entered
+        | inr free ↦ (four_true (is_entered r p) (flies r p) (list_any (holds_back r p) h.pieces) (not (is_held r p)) not_entered
             (false_from_ne_true (flies r p) (λ e. false≢true (sym free ∙ (flies_first p i at e).1))) none_before)
       ]

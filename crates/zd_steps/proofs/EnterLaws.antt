@@ -39,8 +39,7 @@ front_others c pieces i (suc d) inside none =
     let at : slice_get pieces (i + d) ≡ Some p = slice_get-get_or pieces (i + d) nobody (omega (arith, inside)) in
     ap (front c pieces) (omega arith)
     ∙ front_more c pieces (i + d) p at
-    ∙ ap (λ ms. front c pieces (i + d) ++ ms)
-    (other_mark c (mark_of_piece p) (none (i + d) p (omega arith) (omega arith) at))
+    ∙ ap (λ ms. front c pieces (i + d) ++ ms) (other_mark c (mark_of_piece p) (none (i + d) p (omega arith) (omega arith) at))
     ∙ append-nil (front c pieces (i + d))
     ∙ front_others c pieces i d (omega (arith, inside)) (λ k q low high. none k q low (omega (arith, high)))
 
@@ -50,8 +49,7 @@ front_first c pieces i j first =
     let above = first.above in
     let within = first.within in
     ap (front c pieces) (omega (arith, above))
-    ∙ front_others c pieces i (j - i) (omega (arith, above, within))
-    (λ k q low high. first.skips k q low (omega (arith, high, above)))
+    ∙ front_others c pieces i (j - i) (omega (arith, above, within)) (λ k q low high. first.skips k q low (omega (arith, high, above)))
 
 -- nothing is entered while each head is its caller's first piece of all
 pub none_entered : (pieces : List Piece) (links heads : List ℕ) → AreLinkedFrom pieces links heads 0
@@ -65,8 +63,7 @@ pub one_entered : (pieces : List Piece) (heads : List ℕ) (entered : List Mark)
     → HasEntered (record { pieces = pieces; heads = heads }) entered
     → HasEntered (record { pieces = pieces; heads = set heads caller j }) (entered ++ mark_of_piece p ∷ [])
 one_entered pieces heads entered caller j p known own at next before =
-    one_set pieces heads caller j known
-    (λ c n. marks_of_caller c (entered ++ mark_of_piece p ∷ []) ≡ front c pieces n) mine others
+    one_set pieces heads caller j known (λ c n. marks_of_caller c (entered ++ mark_of_piece p ∷ []) ≡ front c pieces n) mine others
   where
     i : ℕ
     i = head_in pieces heads caller
@@ -77,8 +74,7 @@ one_entered pieces heads entered caller j p known own at next before =
         ∙ sym (front_more caller pieces (head_in pieces heads caller) p at)
         ∙ sym (front_first caller pieces (head_in pieces heads caller + 1) j next)
 
-    others : (c : ℕ) → c ≢ caller → marks_of_caller c (entered ++ mark_of_piece p ∷ []) ≡ front c pieces
-        (head_in pieces heads c)
+    others : (c : ℕ) → c ≢ caller → marks_of_caller c (entered ++ mark_of_piece p ∷ []) ≡ front c pieces (head_in pieces heads c)
     others c other = marks-append c entered (mark_of_piece p ∷ [])
         ∙ ap (λ ms. marks_of_caller c entered ++ ms) (other_mark c (mark_of_piece p) (λ e. other (sym e ∙ own)))
         ∙ append-nil (marks_of_caller c entered)

@@ -40,8 +40,7 @@ module _ (h : Callers) (entered : List Mark) (order : AreInOrder h.pieces) (befo
       let q : Piece = place.1 in
       let is : mark_of_piece q ≡ m = place.4 in
       let same : place.0 ≡ i = same_place h.pieces order place.0 i q p place.3 at
-      (ap (λ n. n.request) is ∙ eqb-true m.request p.request numbers.0)
-      (ap (λ n. n.piece) is ∙ eqb-true m.piece p.piece numbers.1) in
+      (ap (λ n. n.request) is ∙ eqb-true m.request p.request numbers.0) (ap (λ n. n.piece) is ∙ eqb-true m.piece p.piece numbers.1) in
       let one : q ≡ p = same_Some q p (sym place.3 ∙ ap (slice_get h.pieces) same ∙ at) in
       let caller : m.caller ≡ p.caller = sym (ap (λ n. n.caller) is) ∙ ap (λ x. x.caller) one in
       subst (λ c. i < head_of h c) caller (subst (λ k. k < head_of h m.caller) same place.2)
@@ -49,14 +48,12 @@ module _ (h : Callers) (entered : List Mark) (order : AreInOrder h.pieces) (befo
   entered_from : i < head_of h p.caller → list_any (is_mark_of p) entered ≡ true
   entered_from low =
       let front = front-in mark_of_piece (head_of h p.caller) i h.pieces p low at in
-      let mine = filter-in (λ n. eqb n.caller p.caller) (mark_of_piece p)
-      (map mark_of_piece (take (head_of h p.caller) h.pieces))
+      let mine = filter-in (λ n. eqb n.caller p.caller) (mark_of_piece p) (map mark_of_piece (take (head_of h p.caller) h.pieces))
       front (eq-eqb p.caller p.caller refl) in
       let there = in-filter (λ n. eqb n.caller p.caller) (mark_of_piece p) entered
       (subst (In (mark_of_piece p)) (sym (before p.caller)) mine) in
       in-any (is_mark_of p) (mark_of_piece p) entered there.0
-      (and_from (eqb p.request p.request) (eqb p.piece p.piece) (eq-eqb p.request p.request refl)
-      (eq-eqb p.piece p.piece refl))
+      (and_from (eqb p.request p.request) (eqb p.piece p.piece) (eq-eqb p.request p.request refl) (eq-eqb p.piece p.piece refl))
 
   pub entered_decides : Decides (list_any (is_mark_of p) entered) (i < head_of h p.caller)
   entered_decides = (low_from, entered_from)

@@ -8,5 +8,4 @@ pub record IsLeastBelow (h : Callers) (test : Piece → Bool) (from n place : �
   pub within : place ≤ length h.pieces
   pub above : from ≤ length h.pieces → from ≤ place
   pub here : (p : Piece) → slice_get h.pieces place ≡ Some p → (head_of h p.caller ≡ place) × (test p ≡ true)
-  pub least : (c : ℕ) (p : Piece) → c < n → first_of h c ≡ Some p → test p ≡ true → from ≤ head_of h c
-      → place ≤ head_of h c
+  pub least : (c : ℕ) (p : Piece) → c < n → first_of h c ≡ Some p → test p ≡ true → from ≤ head_of h c → place ≤ head_of h c

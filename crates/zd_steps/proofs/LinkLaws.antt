@@ -15,8 +15,7 @@ nobody = record { caller = 0; request = 0; piece = 0; what = Read 0 0; range = f
 
 -- one head is set anew, the others stay
 pub one_set : (pieces : List Piece) (heads : List ℕ) (caller j : ℕ) → caller < length heads → (P : ℕ → ℕ → Type 0)
-    → P caller j → ((c : ℕ) → c ≢ caller → P c (head_in pieces heads c)) → (c : ℕ) → P c
-    (head_in pieces (set heads caller j) c)
+    → P caller j → ((c : ℕ) → c ≢ caller → P c (head_in pieces heads c)) → (c : ℕ) → P c (head_in pieces (set heads caller j) c)
 one_set pieces heads caller j known P mine others c = elim (cases_eq c caller) [
   | inl same ↦ subst (P c)
       (sym (ap (head_in pieces (set heads caller j)) same ∙ get_or-set_same heads caller j (length pieces) known))
@@ -41,8 +40,7 @@ lower pieces c i k p at other first = record {
   within = first.within;
   own = first.own;
   skips = λ n q low high e. elim (cases_eq n i) [
-    | inl same ↦
-        (λ own. other (sym (ap (λ x. x.caller) (same_Some q p (sym e ∙ ap (slice_get pieces) same ∙ at))) ∙ own))
+    | inl same ↦ (λ own. other (sym (ap (λ x. x.caller) (same_Some q p (sym e ∙ ap (slice_get pieces) same ∙ at))) ∙ own))
     | inr apart ↦ first.skips n q (omega (arith, low, apart)) high e
   ];
 }
@@ -54,8 +52,7 @@ link_one : (pieces : List Piece) (links heads : List ℕ) (i : ℕ) (p : Piece) 
 link_one pieces links heads i p callers at behind = record {
   count = length-set links i (head_in pieces heads p.caller) ∙ behind.count;
   callers = length-set heads p.caller i ∙ behind.callers;
-  firsts = one_set pieces heads p.caller i
-      (let size = behind.callers in let below = callers i p at in omega (arith, size, below))
+  firsts = one_set pieces heads p.caller i (let size = behind.callers in let below = callers i p at in omega (arith, size, below))
       (λ c n. IsFirstFrom pieces c i n) (here pieces i p at)
       (λ c other. lower pieces c i (head_in pieces heads c) p at (λ e. other (sym e)) (behind.firsts c));
   each = λ k q low e. one k q low e (cases_eq k i);
@@ -68,14 +65,11 @@ link_one pieces links heads i p callers at behind = record {
         let inside = slice_get_within pieces i p at in
         let count = behind.count in
         let value = get_or-set_same links i (head_in pieces heads p.caller) 0 (omega (arith, inside, count)) in
-        subst (λ n. IsFirstFrom pieces q.caller (n + 1) (slice_index (set links i (head_in pieces heads p.caller)) n))
-        (sym same)
-        (subst (λ x. IsFirstFrom pieces x.caller (i + 1)
-        (slice_index (set links i (head_in pieces heads p.caller)) i)) (sym is)
+        subst (λ n. IsFirstFrom pieces q.caller (n + 1) (slice_index (set links i (head_in pieces heads p.caller)) n)) (sym same)
+        (subst (λ x. IsFirstFrom pieces x.caller (i + 1) (slice_index (set links i (head_in pieces heads p.caller)) i)) (sym is)
         (subst (IsFirstFrom pieces p.caller (i + 1)) (sym value) (behind.firsts p.caller)))
     one k q low e (inr apart) =
-        subst (IsFirstFrom pieces q.caller (k + 1))
-        (sym (get_or-set_other links i k (head_in pieces heads p.caller) 0 apart))
+        subst (IsFirstFrom pieces q.caller (k + 1)) (sym (get_or-set_other links i k (head_in pieces heads p.caller) 0 apart))
         (behind.each k q (omega (arith, low, apart)) e)
 
 -- the same, as the code writes it
@@ -87,8 +81,7 @@ link_as pieces links heads i k h p callers inside is number read behind =
     let size = behind.callers in
     let below = callers i p at in
     let value : h ≡ head_in pieces heads p.caller =
-    read ∙ ap (λ n. get_or heads n 0) number ∙ get_or_default heads p.caller 0 (length pieces)
-    (omega (arith, size, below)) in
+    read ∙ ap (λ n. get_or heads n 0) number ∙ get_or_default heads p.caller 0 (length pieces) (omega (arith, size, below)) in
     subst (λ n. AreLinkedFrom pieces (set links i h) (set heads n i) i) (sym number)
     (subst (λ n. AreLinkedFrom pieces (set links i n) (set heads p.caller i) i) (sym value)
     (link_one pieces links heads i p callers at behind))
@@ -125,8 +118,7 @@ heads_of pieces links heads all = record {
 
 -- a caller's head goes on to its next piece, as the code reads the head and its link
 module _ (pieces : List Piece) (links heads : List ℕ) (linked : AreLinks pieces links) (are : AreHeads pieces heads)
-    (caller number j : ℕ) (is : number ≡ caller) (below : caller < 64)
-    (some : head_in pieces heads caller < length pieces)
+    (caller number j : ℕ) (is : number ≡ caller) (below : caller < 64) (some : head_in pieces heads caller < length pieces)
     (read : j ≡ get_or links (get_or heads number 0) j) where
   pub known : number < length heads
   known = let size = are.count in omega (arith, size, is, below)
@@ -153,3 +145,13 @@ module _ (pieces : List Piece) (links heads : List ℕ) (linked : AreLinks piece
     own = one_set pieces heads number j known (λ c n. (q : Piece) → slice_get pieces n ≡ Some q → q.caller ≡ c)
         next_first.own (λ c other. are.own c);
   }
+
+  -- it goes on, and the other heads stay
+  pub head_passes : head_in pieces heads caller < head_in pieces (set heads number j) caller
+  head_passes =
+      let above = next_first.above in
+      let value : head_in pieces (set heads number j) number ≡ j = get_or-set_same heads number j (length pieces) known in
+      subst (λ n. head_in pieces heads n < head_in pieces (set heads number j) n) is (omega (arith, above, value))
+
+  pub head_stays : (c : ℕ) → c ≢ caller → head_in pieces (set heads number j) c ≡ head_in pieces heads c
+  head_stays c other = get_or-set_other heads number c j (length pieces) (λ e. other (e ∙ is))

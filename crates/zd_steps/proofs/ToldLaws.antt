@@ -17,20 +17,16 @@ use Rattle.zd_steps.proofs.EligibleLaws.{eligible_first, first_eligible, flies_f
 use Rattle.zd_steps.proofs.FirstLaws.{IsFirstAt, IsToldByFirsts, any-first, find-first, least-first}
 use Rattle.zd_steps.proofs.LinkLaws.{nobody}
 
-all_at : {X : Type 0} (test : X → Bool) (xs : List X) (i : ℕ) (x : X) → list_all test xs ≡ true
-    → slice_get xs i ≡ Some x → test x ≡ true
+all_at : {X : Type 0} (test : X → Bool) (xs : List X) (i : ℕ) (x : X) → list_all test xs ≡ true → slice_get xs i ≡ Some x → test x ≡ true
 all_at test [] i x h at = absurd (none-some x at)
 all_at test (y ∷ ys) zero x h at = ap test (sym (same_Some y x at)) ∙ (and_parts (test y) (list_all test ys) h).0
 all_at test (y ∷ ys) (suc i) x h at = all_at test ys i x (and_parts (test y) (list_all test ys) h).1 at
 
-all_from : {X : Type 0} (test : X → Bool) (xs : List X) → ((i : ℕ) (x : X) → slice_get xs i ≡ Some x → test x ≡ true)
-    → list_all test xs ≡ true
+all_from : {X : Type 0} (test : X → Bool) (xs : List X) → ((i : ℕ) (x : X) → slice_get xs i ≡ Some x → test x ≡ true) → list_all test xs ≡ true
 all_from test [] h = refl
-all_from test (y ∷ ys) h = and_from (test y) (list_all test ys) (h 0 y refl)
-    (all_from test ys (λ i x at. h (suc i) x at))
+all_from test (y ∷ ys) h = and_from (test y) (list_all test ys) (h 0 y refl) (all_from test ys (λ i x at. h (suc i) x at))
 
-module _ (q : QueueState) (is : IsQueue q.chunk_blocks q.callers q.flights) (entered : List Mark)
-    (before : HasEntered q.callers entered) where
+module _ (q : QueueState) (is : IsQueue q.chunk_blocks q.callers q.flights) (entered : List Mark) (before : HasEntered q.callers entered) where
   abbrev h : Callers
   h = q.callers
 
@@ -42,8 +38,7 @@ module _ (q : QueueState) (is : IsQueue q.chunk_blocks q.callers q.flights) (ent
 
   flush_same : (p : Piece) → first_of h p.caller ≡ Some p → is_eligible_flush r p ≡ flushes p
   flush_same p at = elim (cases_Bool (flushes p)) [
-    | inl f ↦ and_from (flushes p) (is_eligible r p) f
-        (eligible_is p at ∙ not_from_false (is_held r p) (flush_free q.chunk_blocks q.flights p f)) ∙ sym f
+    | inl f ↦ and_from (flushes p) (is_eligible r p) f (eligible_is p at ∙ not_from_false (is_held r p) (flush_free q.chunk_blocks q.flights p f)) ∙ sym f
     | inr f ↦ and_left (flushes p) (is_eligible r p) f ∙ sym f
   ]
 
@@ -53,25 +48,21 @@ module _ (q : QueueState) (is : IsQueue q.chunk_blocks q.callers q.flights) (ent
     same = flush_same;
   }
 
-  pub flush_first : (from place : ℕ) → from ≤ place → IsLeast h flushes from place → IsFirstAt
-      (is_eligible_flush r) h.pieces from place
+  pub flush_first : (from place : ℕ) → from ≤ place → IsLeast h flushes from place → IsFirstAt (is_eligible_flush r) h.pieces from place
   flush_first from place up least = least-first h (is_eligible_flush r) flushes from place up flush_told least
 
   pub flush_is : (place : ℕ) → IsLeast h flushes 0 place → ltb place (length h.pieces) ≡ has_flush r
-  flush_is place least = same_from_decides (ltb place (length h.pieces)) (has_flush r)
-      (Decides-ltb place (length h.pieces))
+  flush_is place least = same_from_decides (ltb place (length h.pieces)) (has_flush r) (Decides-ltb place (length h.pieces))
       (any-first (is_eligible_flush r) h.pieces place (flush_first 0 place (omega arith) least))
 
   -- all pieces are entered exactly where each caller's head stands behind all pieces
-  behind_all : ((c : ℕ) → c < 64 → length h.pieces ≤ head_of h c) → (i : ℕ) (p : Piece)
-      → slice_get h.pieces i ≡ Some p → is_entered r p ≡ true
+  behind_all : ((c : ℕ) → c < 64 → length h.pieces ≤ head_of h c) → (i : ℕ) (p : Piece) → slice_get h.pieces i ≡ Some p → is_entered r p ≡ true
   behind_all all i p at =
       let low = slice_get_within h.pieces i p at in
       let high = all p.caller (is.script.callers i p at) in
       (entered_decides h entered is.script.order before i p at).1 (omega (arith, low, high))
 
-  all_behind : is_over r ≡ true → (c : ℕ) → (head_of h c < length h.pieces) ⊎ (length h.pieces ≤ head_of h c)
-      → length h.pieces ≤ head_of h c
+  all_behind : is_over r ≡ true → (c : ℕ) → (head_of h c < length h.pieces) ⊎ (length h.pieces ≤ head_of h c) → length h.pieces ≤ head_of h c
   all_behind over c (inr high) = high
   all_behind over c (inl inside) =
       let k : ℕ = head_of h c in
@@ -100,11 +91,10 @@ module _ (q : QueueState) (is : IsQueue q.chunk_blocks q.callers q.flights) (ent
 
     pub wanting_told : IsToldByFirsts h (wants_zone r v) (is_first_wanting q.chunk_blocks q.flights v)
     wanting_told = record {
-      only = λ i p at e. elim
-          (or_cases (is_eligible r p) (flies r p) (and_parts (is_eligible r p || flies r p) (lacks_zone v p) e).0) [
-            | inl first ↦ eligible_first q is entered before i p at first
-            | inr flying ↦ (flies_first q is entered before p i at flying).0
-          ];
+      only = λ i p at e. elim (or_cases (is_eligible r p) (flies r p) (and_parts (is_eligible r p || flies r p) (lacks_zone v p) e).0) [
+        | inl first ↦ eligible_first q is entered before i p at first
+        | inr flying ↦ (flies_first q is entered before p i at flying).0
+      ];
       same = λ p at. ap (λ b. (b || flies r p) && lacks_zone v p) (eligible_is p at);
     }
 
@@ -112,13 +102,10 @@ module _ (q : QueueState) (is : IsQueue q.chunk_blocks q.callers q.flights) (ent
     pub servable_is : (place : ℕ) → IsLeast h (is_first_servable q.chunk_blocks q.flights v) 0 place
         → find (is_servable r v) h.pieces ≡ slice_get h.pieces place
     servable_is place least = find-first (is_servable r v) h.pieces place
-        (least-first h (is_servable r v) (is_first_servable q.chunk_blocks q.flights v) 0 place
-        (omega arith) servable_told least)
+        (least-first h (is_servable r v) (is_first_servable q.chunk_blocks q.flights v) 0 place (omega arith) servable_told least)
 
     pub wanted_is : (place : ℕ) → IsLeast h (is_first_wanting q.chunk_blocks q.flights v) 0 place
         → ltb place (length h.pieces) ≡ is_wanted r v
-    wanted_is place least = same_from_decides (ltb place (length h.pieces)) (is_wanted r v)
-        (Decides-ltb place (length h.pieces))
+    wanted_is place least = same_from_decides (ltb place (length h.pieces)) (is_wanted r v) (Decides-ltb place (length h.pieces))
         (any-first (wants_zone r v) h.pieces place
-        (least-first h (wants_zone r v) (is_first_wanting q.chunk_blocks q.flights v) 0 place
-        (omega arith) wanting_told least))
+        (least-first h (wants_zone r v) (is_first_wanting q.chunk_blocks q.flights v) 0 place (omega arith) wanting_told least))

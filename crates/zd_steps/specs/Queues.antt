@@ -1,11 +1,9 @@
 -- The pieces of all callers, each caller's first that isn't entered, and what is in flight.
-use Rattle.std.specs.Prelude.{◌≡◌, ◌≢◌, ◌⊎◌, ℕ, ◌+◌, ◌<◌, ◌≤◌, Bool, true, false, not, ◌&&◌, ◌||◌, List, length, map}
-use Rattle.std.specs.Prelude.{take, get_or}
+use Rattle.std.specs.Prelude.{◌≡◌, ◌≢◌, ◌⊎◌, ℕ, ◌+◌, ◌<◌, ◌≤◌, Bool, true, false, not, ◌&&◌, ◌||◌, List, length, map, take, get_or}
 use Rattle.std.specs.Prelude.{slice_get, slice_index, slice_set, ◌++◌, ◌∷◌, [], Option, Some, None}
 use Rattle.zd_model.specs.History.{Mark, mark_of_piece, marks_of_caller}
 use Rattle.zd_model.specs.declared.requests.Piece.{Piece}
-use Rattle.zd_steps.specs.Runs.{Run, Standing, chunk_of, flies_in, flushes, is_held_in, is_ready, lacks_zone, reads}
-use Rattle.zd_steps.specs.Runs.{writes}
+use Rattle.zd_steps.specs.Runs.{Run, Standing, chunk_of, flies_in, flushes, is_held_in, is_ready, lacks_zone, reads, writes}
 
 -- p stands before q in the script
 abbrev pub Precedes : Piece → Piece → Type 0
@@ -122,7 +120,8 @@ pub record MayServe (q : QueueState) (actor : ℕ) (p : Piece) : Type 0 where
 pub record EntersPiece (old new : QueueState) (actor : ℕ) (p : Piece) : Type 0 where
   pub rest : new ≡ record old { callers = new.callers; flights = slice_set old.flights actor None }
   pub pieces : new.callers.pieces ≡ old.callers.pieces
-  pub others : (c : ℕ) → c ≢ p.caller → first_of new.callers c ≡ first_of old.callers c
+  pub passes : head_of old.callers p.caller < head_of new.callers p.caller
+  pub stays : (c : ℕ) → c ≢ p.caller → head_of new.callers c ≡ head_of old.callers c
   pub entered : (marks : List Mark) → HasEntered old.callers marks
       → HasEntered new.callers (marks ++ mark_of_piece p ∷ [])
 
@@ -137,6 +136,7 @@ pub record AreFirsts (h : Callers) (list : List Piece) : Type 0 where
 pub record EntersFlushes (old new : QueueState) (list : List Piece) : Type 0 where
   pub rest : new ≡ record old { callers = new.callers }
   pub pieces : new.callers.pieces ≡ old.callers.pieces
+  pub later : (c : ℕ) → head_of old.callers c ≤ head_of new.callers c
   pub entered : (marks : List Mark) → HasEntered old.callers marks
       → HasEntered new.callers (marks ++ map mark_of_piece list)
 

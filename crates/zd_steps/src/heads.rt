@@ -118,7 +118,8 @@ impl Heads {
         requires some { head_of self.old caller < length self.old.pieces }
         ensures pieces { self.new.pieces ≡ self.old.pieces }
         ensures heads { AreHeads self.new.pieces self.new.heads }
-        ensures others { (c : ℕ) → c ≢ caller → first_of self.new c ≡ first_of self.old c }
+        ensures passes { head_of self.old caller < head_of self.new caller }
+        ensures stays { (c : ℕ) → c ≢ caller → head_of self.new c ≡ head_of self.old c }
         ensures entered { (entered : List Mark) (p : Piece) → HasEntered self.old entered →
             first_of self.old caller ≡ Some p → HasEntered self.new (entered ++ mark_of_piece p ∷ []) }
     {
@@ -134,6 +135,7 @@ impl Heads {
         ensures heads { AreHeads self.new.pieces self.new.heads }
         ensures others { (c : ℕ) → ((k : ℕ) (p : Piece) → slice_get list.now k ≡ Some p → p.caller ≢ c) →
             first_of self.new c ≡ first_of self.old c }
+        ensures later { (c : ℕ) → head_of self.old c ≤ head_of self.new c }
         ensures entered { (entered : List Mark) → HasEntered self.old entered →
             HasEntered self.new (entered ++ map mark_of_piece list.now) }
     {

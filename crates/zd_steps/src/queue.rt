@@ -6,7 +6,8 @@ ghost use Rattle.zd_model.specs.History.{Mark};
 ghost use Rattle.zd_model.specs.declared.requests.Piece.{Piece};
 ghost use Rattle.zd_steps.specs.Runs.{eligible_flushes, flight_of, has_flush, is_over, is_ready, is_wanted, reads, writes};
 ghost use Rattle.zd_steps.specs.NextStep.{by_preference, commit_step, job_step, next_step, piece_step};
-ghost use Rattle.zd_steps.specs.Queues.{EntersFlushes, EntersPiece, HasEntered, IsScriptOf, MayServe, head_of, run_of};
+ghost use Rattle.zd_steps.specs.Queues.{EntersFlushes, EntersPiece, HasEntered, IsQueue, IsScriptOf, MayServe};
+ghost use Rattle.zd_steps.specs.Queues.{head_of, run_of};
 ghost use Rattle.zd_steps.specs.declared.step.Step.TheVariants.{Serve};
 
 use crate::flights::Flights;
@@ -84,6 +85,13 @@ impl Queue {
         ensures { result ≡ head_of self.now.callers caller }
     {
         self.heads.head(usize::from(caller))
+    }
+
+    /// What is always true of a queue.
+    pub fn sound(&self)
+        ensures { IsQueue self.now.chunk_blocks self.now.callers self.now.flights }
+    {
+        let _heads = &self.heads;
     }
 
     /// The class of pieces: the next step of what the actor has in flight, else of the first piece that is

@@ -27,7 +27,7 @@ use Rattle.zd_volume.specs.declared.work.Place.TheVariants.{Buffer, Main, NewBuf
 use Rattle.zd_volume.specs.declared.work.Work.{Work}
 use Rattle.zd_write.specs.Tries.{GivesUpOn}
 
-on_or_not : (job : Option Work) (chunk : ℕ) → NoJobOn job chunk ⊎ (NoJobOn job chunk → ⊥)
+pub on_or_not : (job : Option Work) (chunk : ℕ) → NoJobOn job chunk ⊎ (NoJobOn job chunk → ⊥)
 on_or_not None chunk = inl tt
 on_or_not (Some w) chunk = elim (cases_eq w.job.chunk chunk) [
   | inl same ↦ inr (λ off. off same)
@@ -81,7 +81,7 @@ abandoned_uses from to fixed did =
 
 -- GIVING UP THE JOB ON A CHUNK
 module _ (from to : PlainVolume) (chunk : ℕ) (gives : GivesUpOn from to chunk) where
-  given_rest : to ≡ record from { job = to.job; division = to.division }
+  pub given_rest : to ≡ record from { job = to.job; division = to.division }
   given_rest = elim (on_or_not from.job chunk) [
     | inl off ↦
         subst (λ (w : PlainVolume). w ≡ record from { job = w.job; division = w.division })

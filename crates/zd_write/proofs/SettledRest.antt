@@ -37,7 +37,7 @@ module _ (v : PlainVolume) (chunk : ℕ) where
   entry = entry_of (tables_now v) chunk
 
   -- a chunk is bare or it isn't
-  abbrev BareOrNot : Type 0
+  abbrev pub BareOrNot : Type 0
   BareOrNot = ((z b : ℕ) × IsBare v chunk z b) ⊎ ((z b : ℕ) → IsBare v chunk z b → ⊥)
 
   by_bits : (z b : ℕ) → chunk < v.head.layout.chunks → entry.zone ≡ Some z → entry.buffer ≡ Some b
@@ -65,7 +65,7 @@ module _ (v : PlainVolume) (chunk : ℕ) where
   by_zones (Some z) None there zone is = inr (λ y b bare.
       let no : None ≡ Some b = sym is ∙ ap (λ (m : MapEntry). m.buffer) bare.entry in let f : ⊥ = cc in f)
 
-  bare_or_not : BareOrNot
+  pub bare_or_not : BareOrNot
   bare_or_not = elim (cases_order chunk v.head.layout.chunks) [
     | inl same ↦ inr (λ z b bare. (let low = bare.there in absurd (omega (arith, same, low))))
     | inr (inl less) ↦ by_zones entry.zone entry.buffer less refl refl

@@ -1,4 +1,4 @@
-//! Runs a script of one caller over a disk in an image file: `zreplay_one IMAGE SCRIPT`.
+//! Runs a script over a disk in an image file: `zreplay_one IMAGE SCRIPT`.
 //!
 //! The report goes to standard output, and the exit status is its last line's. A script of `-` is
 //! standard input.

@@ -1,61 +1,55 @@
-use Rattle.std.proofs.Common.{◌∙◌, sym, subst}
-use Rattle.std.proofs.lemmas.Bool.{false≢true}
-use Rattle.zd_model.specs.declared.texts.Outcome.TheVariants as outcomes
-use Rattle.zd_replay.specs.Ends.{all_done, no_generation}
-use Rattle.zd_replay.specs.Run.{RunsPlan}
-use Rattle.zd_replay.proofs.AnsweredLaws.{comes_of, ends_by, faults_of}
+use Rattle.std.proofs.Common.{◌≡◌, List, None, sym, subst}
+use Rattle.zd_model.specs.History.{HistoryEntry}
+use Rattle.zd_state.specs.Seen.{Seen}
+use Rattle.zd_volume.specs.FaultCounts.{AreCalm}
+use Rattle.zd_replay.specs.Ends.{no_memory}
+use Rattle.zd_replay.specs.Run.{RunsInTime, RunsPlan}
+use Rattle.zd_replay.proofs.SessionLaws.{finished_runs, finished_timely, new_begun, unbegun_runs, unbegun_timely}
+use Rattle.zd_replay.proofs.TurnLaws.{runs_alone}
 use Rattle.zd_replay.proofs.plan.run_plan.Goals as goal
 
-pub returns-then-closes_volume-clause-runs : goal.returns-then-closes_volume-clause-runs
-returns-then-closes_volume-clause-runs g c =
+pub returns-in-Err-clause-runs : goal.returns-in-Err-clause-runs
+returns-in-Err-clause-runs g c =
     let view = g.D.ZonedDisk.view in
-    let answer = c.answer_all-outcome in
-    let from = c.args.v.now.plain in
-    let to = answer.new.v.plain in
-    let plan = c.args.plan.now in
-    let outcome = answer.result in
-    let now = view answer.new.v.disk in
-    let ends = answer.ensures.ends in
-    subst (λ (o : _). RunsPlan plan outcome from to (view o) now) answer.ensures.opening
-    (record {
-      comes = comes_of plan from to now outcome ends;
-      shape = c.sound.ensures.sets.shape;
-      shows = c.shows.ensures;
-      first = answer.ensures.first;
-      all = λ is. (ends_by plan from to now outcome all_done ends is).0;
-      stuck = λ is. (ends_by plan from to now outcome outcomes.NotBuilt ends is).0;
-      counted = c.counts.ensures.calls;
-      faulted = faults_of plan from to now outcome ends _ _ c.counts.ensures.faults;
-      legal = c.serves.ensures.legal;
-      safe = c.safe.ensures.safe;
-      earlier = c.safe.ensures.earlier;
-      closed = λ _. c.closed.ensures;
-      generation = ends_by plan from to now outcome no_generation ends;
-    })
+    let volume = c.args.volume in
+    let parts = c.parts_of-history.ensures in
+    let runs = unbegun_runs view c.args.plan volume c.in-Err.volume c.in-Err.ensures.err c.requires.fresh.new
+    c.sound.ensures.sets.shape c.requires.fresh.here parts.shown in
+    subst (λ (h : List HistoryEntry). RunsPlan c.args.plan no_memory h volume.plain (view volume.opening)
+    (view c.parts_of-history.result.1)) (sym parts.history)
+    (subst (λ (d : _). RunsPlan c.args.plan no_memory c.in-Err.volume.plain.history volume.plain (view volume.opening)
+    (view d)) (sym parts.disk) runs)
 
-pub returns-else-closes_volume-clause-runs : goal.returns-else-closes_volume-clause-runs
-returns-else-closes_volume-clause-runs g c =
-    let view = g.D.ZonedDisk.view in
-    let answer = c.answer_all-outcome in
-    let from = c.args.v.now.plain in
-    let to = answer.new.v.plain in
-    let plan = c.args.plan.now in
-    let outcome = answer.result in
-    let now = view answer.new.v.disk in
-    let ends = answer.ensures.ends in
-    subst (λ (o : _). RunsPlan plan outcome from to (view o) now) answer.ensures.opening
-    (record {
-      comes = comes_of plan from to now outcome ends;
-      shape = c.sound.ensures.sets.shape;
-      shows = c.shows.ensures;
-      first = answer.ensures.first;
-      all = λ is. (ends_by plan from to now outcome all_done ends is).0;
-      stuck = λ is. (ends_by plan from to now outcome outcomes.NotBuilt ends is).0;
-      counted = c.counts.ensures.calls;
-      faulted = faults_of plan from to now outcome ends _ _ c.counts.ensures.faults;
-      legal = c.serves.ensures.legal;
-      safe = c.safe.ensures.safe;
-      earlier = c.safe.ensures.earlier;
-      closed = λ closes. absurd (false≢true (sym c.if-closes_volume.false ∙ c.closes_volume.ensures.1 closes));
-      generation = ends_by plan from to now outcome no_generation ends;
-    })
+pub returns-in-Err-clause-timely : goal.returns-in-Err-clause-timely
+returns-in-Err-clause-timely g c =
+    let parts = c.parts_of-history.ensures in
+    let timely = unbegun_timely g.D.ZonedDisk.view c.args.plan c.args.volume c.in-Err.volume c.in-Err.ensures.err
+    c.requires.fresh.new in
+    subst (λ (h : List HistoryEntry). RunsInTime c.args.plan no_memory h c.args.volume.plain) (sym parts.history) timely
+
+-- nobody else has a piece in flight
+pub finish-history-requires : goal.finish-history-requires
+finish-history-requires g c =
+    c.run_alone.ensures.ended
+    (new_begun c.args.plan c.args.volume c.in-Ok.session c.requires.fresh c.in-Ok.ensures.begins).alone
+
+pub returns-clause-runs : goal.returns-clause-runs
+returns-clause-runs g c =
+    let run = c.run_alone.new.self in
+    let begun = c.in-Ok.session in
+    let new = new_begun c.args.plan c.args.volume begun c.requires.fresh c.in-Ok.ensures.begins in
+    let calm = subst (λ (v : Seen _). v.plain.stopped ≡ None → AreCalm v.plain.history) c.volume.ensures c.calm.ensures in
+    finished_runs g.D.ZonedDisk.view c.args.plan c.args.volume begun run
+    c.finish-history.result.0.items c.finish-history.result.1 c.finish-history.result.2 c.in-Ok.ensures.begins
+    (runs_alone g.D.ZonedDisk.view begun run new c.run_alone.ensures calm) c.finish-history.ensures
+    c.sound.ensures.sets.shape
+
+pub returns-clause-timely : goal.returns-clause-timely
+returns-clause-timely g c =
+    let run = c.run_alone.new.self in
+    let begun = c.in-Ok.session in
+    let new = new_begun c.args.plan c.args.volume begun c.requires.fresh c.in-Ok.ensures.begins in
+    let calm = subst (λ (v : Seen _). v.plain.stopped ≡ None → AreCalm v.plain.history) c.volume.ensures c.calm.ensures in
+    finished_timely g.D.ZonedDisk.view c.args.plan c.args.volume begun run
+    c.finish-history.result.0.items c.finish-history.result.1 c.finish-history.result.2 c.in-Ok.ensures.begins
+    (runs_alone g.D.ZonedDisk.view begun run new c.run_alone.ensures calm) c.finish-history.ensures

@@ -12,9 +12,7 @@ invariant-loop-piece l = record {
   up : from ≤ l.place;
   least : IsLeast l.self-inside.heads flushes from l.place;
   few : vec_len l.list + heads_from from l.self-inside.heads.heads ≤ 64;
-  so_far : (entered : List Mark) → HasEntered l.self-inside.heads entered → IsGathered
-      (queue_of l.self-inside.flights.chunk_blocks l.self-inside.heads l.self-inside.flights.pieces.items) entered
-      l.list.items from;
+  so_far : (entered : List Mark) → HasEntered l.self-inside.heads entered → IsGathered (queue_of l.self-inside.flights.chunk_blocks l.self-inside.heads l.self-inside.flights.pieces.items) entered l.list.items from;
 }
 
 abbrev pub decreases-loop-piece : goal.decreases-loop-piece

@@ -11,8 +11,7 @@ invariant_of-self c =
       script = c.self.invariant.script;
       heads = c.self.invariant.heads;
       flying = same_flights c.self.inside.heads c.self.inside.flights.chunk_blocks c.set.new.self.chunk_blocks
-          (set c.self.inside.flights.pieces.items c.args.actor
-          (Some c.args.piece.now)) c.set.new.self.pieces.items c.set.ensures.blocks c.set.ensures.pieces
+          (set c.self.inside.flights.pieces.items c.args.actor (Some c.args.piece.now)) c.set.new.self.pieces.items c.set.ensures.blocks c.set.ensures.pieces
           (flown_fly q c.self.invariant.flying c.args.actor c.args.piece.now
           (subst (λ (s : QueueState). MayServe s c.args.actor c.args.piece.now) (sym c.self.view_is) c.requires.served)
           c.requires.in_range c.requires.moves);

@@ -11,5 +11,4 @@ returns c =
     queue_of c.self.inside.flights.chunk_blocks c.self.inside.heads c.self.inside.flights.pieces.items in
     subst (λ (s : QueueState). (entered : List Mark) → HasEntered s.callers entered
     → ltb c.least.result c.count.result ≡ has_flush (run_of s entered)) c.self.view_is
-    (λ entered before. ap (ltb c.least.result) c.count.ensures
-    ∙ flush_is q c.self.invariant entered before c.least.result c.least.ensures.least)
+    (λ entered before. ap (ltb c.least.result) c.count.ensures ∙ flush_is q c.self.invariant entered before c.least.result c.least.ensures.least)

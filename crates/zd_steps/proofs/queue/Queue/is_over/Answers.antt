@@ -9,6 +9,5 @@ pub returns : goal.returns
 returns c =
     let q : QueueState =
     queue_of c.self.inside.flights.chunk_blocks c.self.inside.heads c.self.inside.flights.pieces.items in
-    subst (λ (s : QueueState). (entered : List Mark) → HasEntered s.callers entered → c.is_over.result ≡ is_over
-    (run_of s entered))
+    subst (λ (s : QueueState). (entered : List Mark) → HasEntered s.callers entered → c.is_over.result ≡ is_over (run_of s entered))
     c.self.view_is (λ entered before. over_is q c.self.invariant entered before c.is_over.result c.is_over.ensures)

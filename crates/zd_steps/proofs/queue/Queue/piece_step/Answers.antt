@@ -21,22 +21,18 @@ pub returns-then-is_ready : goal.returns-then-is_ready
 returns-then-is_ready g c entered before =
     let q : QueueState =
     queue_of c.self.inside.flights.chunk_blocks c.self.inside.heads c.self.inside.flights.pieces.items in
-    subst (λ (s : QueueState). Some (Serve c.in-Some.piece) ≡ piece_step (run_of s entered)
-    (g.V.HasStanding.standing c.args.volume.now) (flight_of (run_of s entered) c.args.actor))
+    subst (λ (s : QueueState). Some (Serve c.in-Some.piece) ≡ piece_step (run_of s entered) (g.V.HasStanding.standing c.args.volume.now) (flight_of (run_of s entered) c.args.actor))
     c.self.view_is
-    (own_ready (run_of q entered)
-    (g.V.HasStanding.standing c.args.volume.now) c.args.actor c.in-Some.piece c.in-Some.ensures
+    (own_ready (run_of q entered) (g.V.HasStanding.standing c.args.volume.now) c.args.actor c.in-Some.piece c.in-Some.ensures
     (sym c.is_ready.ensures ∙ c.if-is_ready.true))
 
 pub returns-else-is_ready : goal.returns-else-is_ready
 returns-else-is_ready g c entered before =
     let q : QueueState =
     queue_of c.self.inside.flights.chunk_blocks c.self.inside.heads c.self.inside.flights.pieces.items in
-    subst (λ (s : QueueState). None ≡ piece_step (run_of s entered) (g.V.HasStanding.standing c.args.volume.now)
-    (flight_of (run_of s entered) c.args.actor))
+    subst (λ (s : QueueState). None ≡ piece_step (run_of s entered) (g.V.HasStanding.standing c.args.volume.now) (flight_of (run_of s entered) c.args.actor))
     c.self.view_is
-    (own_waits (run_of q entered)
-    (g.V.HasStanding.standing c.args.volume.now) c.args.actor c.in-Some.piece c.in-Some.ensures
+    (own_waits (run_of q entered) (g.V.HasStanding.standing c.args.volume.now) c.args.actor c.in-Some.piece c.in-Some.ensures
     (sym c.is_ready.ensures ∙ c.if-is_ready.false))
 
 pub returns-in-Some-at : goal.returns-in-Some-at
@@ -44,22 +40,17 @@ returns-in-Some-at g c entered before =
     let q : QueueState =
     queue_of c.self.inside.flights.chunk_blocks c.self.inside.heads c.self.inside.flights.pieces.items in
     let v : Standing = g.V.HasStanding.standing c.args.volume.now in
-    subst (λ (s : QueueState). HasEntered s.callers entered → Some (Serve c.in-Some-at.piece.now) ≡ piece_step
-    (run_of s entered) v (flight_of (run_of s entered) c.args.actor))
+    subst (λ (s : QueueState). HasEntered s.callers entered → Some (Serve c.in-Some-at.piece.now) ≡ piece_step (run_of s entered) v (flight_of (run_of s entered) c.args.actor))
     c.self.view_is
-    (λ b. first_found (run_of q entered) v c.args.actor (Some c.in-Some-at.piece.now)
-    (c.of.ensures ∙ ap Some c.in_default.is)
-    (c.in-Some-at.ensures ∙ sym
-    (servable_is q c.self.invariant entered b v c.least-place.result c.least-place.ensures.least))) before
+    (λ b. first_found (run_of q entered) v c.args.actor (Some c.in-Some-at.piece.now) (c.of.ensures ∙ ap Some c.in_default.is)
+    (c.in-Some-at.ensures ∙ sym (servable_is q c.self.invariant entered b v c.least-place.result c.least-place.ensures.least))) before
 
 pub returns-in-None : goal.returns-in-None
 returns-in-None g c entered before =
     let q : QueueState =
     queue_of c.self.inside.flights.chunk_blocks c.self.inside.heads c.self.inside.flights.pieces.items in
     let v : Standing = g.V.HasStanding.standing c.args.volume.now in
-    subst (λ (s : QueueState). HasEntered s.callers entered → None ≡ piece_step (run_of s entered) v
-    (flight_of (run_of s entered) c.args.actor))
+    subst (λ (s : QueueState). HasEntered s.callers entered → None ≡ piece_step (run_of s entered) v (flight_of (run_of s entered) c.args.actor))
     c.self.view_is
     (λ b. first_found (run_of q entered) v c.args.actor None (c.of.ensures ∙ ap Some c.in_default.is)
-    (c.in-None.ensures ∙ sym
-    (servable_is q c.self.invariant entered b v c.least-place.result c.least-place.ensures.least))) before
+    (c.in-None.ensures ∙ sym (servable_is q c.self.invariant entered b v c.least-place.result c.least-place.ensures.least))) before

@@ -1,5 +1,0 @@
-use Rattle.std.proofs.Common.{◌≡◌, Some}
-use Rattle.bench_reclaim.proofs.write_bare.Given as goal
-
-abbrev pub invariant-loop : goal.invariant-loop
-invariant-loop l = l.disk.told ≡ Some l.geometry

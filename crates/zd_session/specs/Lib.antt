@@ -1,0 +1,9 @@
+pub mod Standings
+pub mod Sessions
+pub mod Serving
+pub mod SessionSteps
+pub mod Beginnings
+pub mod SessionEnds
+pub mod Moving
+pub mod LoneSessions
+pub mod LoneStates
