@@ -109,7 +109,9 @@ fn step_volume<D: ZonedDisk>(
 {
     let blocks = u64::from(volume.layout().chunks) * u64::from(volume.geometry().zone_blocks());
     let plan = plan_of(alloc, waiting.saturating_add(steps), blocks)?;
-    let mut session = Session::begin(alloc, volume, plan, CALLERS as usize).ok()?;
+    let Ok(mut session) = Session::begin(alloc, volume, plan, CALLERS as usize) else {
+        return None;
+    };
     let steps = make_steps(&mut session, steps);
     let volume = session.volume();
     Some(Done {
