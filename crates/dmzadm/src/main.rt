@@ -1,5 +1,6 @@
-//! Makes a disk in an image file a volume, by `dmzadm --format --seq R --uuid U IMAGE`, and checks one, by
-//! `dmzadm --check IMAGE`.
+//! Work on the volume in an image file: `dmzadm` makes one (`--format`), checks it (`--check`), repairs it
+//! (`--repair`), shows it (`--status`), gives it a new label (`--relabel`), and makes one of version 1 one of version 2
+//! (`--upgrade`). `docs/USAGE.md` has the words.
 //!
 //! What was done goes to standard output, and the exit status is that of the last line.
 #![tactic(auto)]

@@ -1,11 +1,11 @@
 -- Words ask for one thing.
-use Rattle.std.proofs.Common.{◌≡◌, ℕ, ◌-◌, List, [], ◌∷◌, ◌++◌, get_or, length, replicate, Some, refl, sym, ap, ap₂, ◌∙◌, arith}
+use Rattle.std.proofs.Common.{◌≡◌, ℕ, ◌-◌, List, [], ◌∷◌, ◌++◌, get_or, length, replicate, refl, sym, ap, ap₂, ◌∙◌, arith}
 use Rattle.uuid.specs.Text.{parsed}
 use Rattle.zd_disk.proofs.ToldLaws.{Some-same}
 use Rattle.zd_admin.proofs.WordLaws.{one_number, third}
 use Rattle.zd_admin.specs.Words.{Asks, AsksFormat, AsksRelabel, AsksUpgrade, AsksWith}
 use Rattle.zd_admin.specs.declared.words.Asked.{Asked}
-use Rattle.zd_admin.specs.declared.words.Asked.TheVariants.{Format, Check, Show, Relabel, Upgrade}
+use Rattle.zd_admin.specs.declared.words.Asked.TheVariants.{Format, Check, Repair, Relabel, Show, Upgrade}
 
 -- the fifth letter of the first word, which tells all commands apart
 abbrev letter : List (List ℕ) → ℕ
@@ -14,6 +14,7 @@ letter words = get_or (get_or words 0 []) 4 0
 abbrev letter_of : Asked → ℕ
 letter_of (Format reserved volume) = 114
 letter_of Check = 101
+letter_of Repair = 112
 letter_of Show = 97
 letter_of (Relabel label) = 108
 letter_of (Upgrade volume) = 103
@@ -21,6 +22,7 @@ letter_of (Upgrade volume) = 103
 letter_is : (words : List (List ℕ)) (asked : Asked) → Asks words asked → letter words ≡ letter_of asked
 letter_is words (Format reserved volume) asks = ap letter asks.spelled
 letter_is words Check asks = ap letter asks.spelled
+letter_is words Repair asks = ap letter asks.spelled
 letter_is words Show asks = ap letter asks.spelled
 letter_is words (Relabel label) asks = ap letter asks.1.spelled
 letter_is words (Upgrade volume) asks = ap letter asks.1.spelled
@@ -56,6 +58,8 @@ asked_once words (Format r v) (Format s w) a b = one_format_asked words r s v w 
 asked_once words (Format r v) other a b = absurd (let e = one_letter words (Format r v) other a b in omega (arith, e))
 asked_once words Check Check a b = refl
 asked_once words Check other a b = absurd (let e = one_letter words Check other a b in omega (arith, e))
+asked_once words Repair Repair a b = refl
+asked_once words Repair other a b = absurd (let e = one_letter words Repair other a b in omega (arith, e))
 asked_once words Show Show a b = refl
 asked_once words Show other a b = absurd (let e = one_letter words Show other a b in omega (arith, e))
 asked_once words (Relabel l) (Relabel m) a b = ap (λ (x : List ℕ). Relabel x) (one_label words l m a b)

@@ -16,21 +16,23 @@ use Rattle.zd_model.specs.Volume.{Chosen, IsWellFormed, WellFormed, tables_of}
 use Rattle.zd_model.specs.declared.metadata.Super.{Super as Head}
 use Rattle.zd_model.specs.declared.texts.NoVolume.{NoVolume as Kind}
 use Rattle.zd_model.specs.declared.texts.NoVolume.TheVariants.{NoSuperBlock, Layout, BadMap, BadBits}
+use Rattle.zd_repair.specs.declared.tables.Repaired.{Repaired as Dropped}
 use Rattle.zd_tell.specs.Stages.{DecidesAt, RunStage}
 use Rattle.zd_tell.specs.Stages.RunStage.{Words, Script, Opening, Run}
 use Rattle.zd_tell.proofs.StageLaws.{causes_exclude}
 use Rattle.zd_admin.proofs.AskLaws.{asked_once}
+use Rattle.zd_admin.proofs.LeftOnce.{one_repair, repair_or_last}
 use Rattle.zd_admin.specs.Words.{Asks, IsAdminCommand}
 use Rattle.zd_admin.specs.Shown.{IsStatus, buffered_chunks, free_zones, mapped_chunks}
-use Rattle.zd_admin.specs.Ends.{AdminCause, AskedEnds, CanRise, CheckEnds, EndsExamining, EndsWork, Examines, FormatEnds, IsAdminDecided, IsAtLast, IsOfVersion, IsOpenedFor, OneAdminOutcome, RelabelEnds, ShowEnds, UpgradeEnds, admin_course, refusal_of, verdict_of}
-use Rattle.zd_admin.specs.declared.outcome.AdminWork.TheVariants.{Formatted, Checked, Shown, Relabeled, Upgraded}
+use Rattle.zd_admin.specs.Ends.{AdminCause, AskedEnds, CanRise, CheckEnds, EndsExamining, EndsWork, Examines, FormatEnds, IsAdminDecided, IsAtLast, IsOfVersion, IsOpenedFor, OneAdminOutcome, RelabelEnds, RepairEnds, ShowEnds, UpgradeEnds, admin_course, refusal_of, verdict_of}
+use Rattle.zd_admin.specs.declared.outcome.AdminWork.TheVariants.{Formatted, Checked, Repaired, Shown, Relabeled, Upgraded}
 use Rattle.zd_admin.specs.declared.outcome.Difference.{Difference}
 use Rattle.zd_admin.specs.declared.outcome.Difference.TheVariants.{Super, Block}
 use Rattle.zd_admin.specs.declared.outcome.Outcome.{Outcome}
 use Rattle.zd_admin.specs.declared.outcome.Outcome.TheVariants.{Done, Usage, NoVolume, Device, Memory, Generation, Differs, Unfit, Old, NotOld}
 use Rattle.zd_admin.specs.declared.volume.VolumeStatus.{VolumeStatus}
 use Rattle.zd_admin.specs.declared.words.Asked.{Asked}
-use Rattle.zd_admin.specs.declared.words.Asked.TheVariants.{Format, Check, Show, Relabel, Upgrade}
+use Rattle.zd_admin.specs.declared.words.Asked.TheVariants.{Format, Check, Repair, Relabel, Show, Upgrade}
 
 -- a volume isn't refused
 pub never_refused : (kind : Kind) (image : Image) → ExplainsRefusal (refusal_of kind) image → WellFormed image → ⊥
@@ -178,6 +180,24 @@ module _ (zones : Option Image) (image : Image) (is : zones ≡ Some image) wher
   one_show (Done (Shown s)) p c k d e f h = absurd h
   one_show o p c k d e f h = absurd f
 
+  -- a repair ends in one way, once its set is found
+  one_mend : (o p : Outcome) → EndsWork o → EndsWork p → IsAdminDecided o
+      → IsAdminDecided p → RepairEnds zones o → RepairEnds zones p → o ≡ p
+  one_mend (Done (Repaired a)) (Done (Repaired b)) c k d e f h =
+      ap (λ (x : Dropped). Done (Repaired x)) (one_repair image a b (f image is) (h image is))
+  one_mend (Done (Repaired a)) Generation c k d e f h = absurd (repair_or_last image a (f image is) (h image is))
+  one_mend Generation (Done (Repaired a)) c k d e f h = absurd (repair_or_last image a (h image is) (f image is))
+  one_mend Generation Generation c k d e f h = refl
+  one_mend Device p c k d e f h = absurd d
+  one_mend Memory p c k d e f h = absurd d
+  one_mend o Device c k d e f h = absurd e
+  one_mend o Memory c k d e f h = absurd e
+  one_mend (NoVolume kind) p c k d e f h = absurd c
+  one_mend o (NoVolume kind) c k d e f h = absurd k
+  one_mend (Done (Repaired a)) p c k d e f h = absurd h
+  one_mend Generation p c k d e f h = absurd h
+  one_mend o p c k d e f h = absurd f
+
   -- giving a label ends in one way
   one_relabel : (o p : Outcome) → EndsWork o → EndsWork p → IsAdminDecided o
       → IsAdminDecided p → RelabelEnds zones o → RelabelEnds zones p → o ≡ p
@@ -229,6 +249,7 @@ module _ (zones : Option Image) (told : Option Shape) where
   examines_of : (asked : Asked) (kind : Kind) → AskedEnds asked zones told (NoVolume kind) → Examines asked
   examines_of (Format reserved volume) kind ends = absurd ends
   examines_of Check kind ends = tt
+  examines_of Repair kind ends = tt
   examines_of Show kind ends = tt
   examines_of (Relabel label) kind ends = tt
   examines_of (Upgrade volume) kind ends = tt
@@ -238,6 +259,10 @@ module _ (zones : Option Image) (told : Option Shape) where
       → WhereTold zones (λ image. IsOpenedFor asked image → ⊥)
   refused_for (Format reserved volume) kind ends = absurd ends
   refused_for Check kind ends = λ image is. never_refused kind image (ends image is)
+  refused_for Repair NoSuperBlock ends = λ image is found. none_or_placed image (ends image is) found.0 found.1
+  refused_for Repair Layout ends = λ image is found. layout_or_placed image (ends image is) found.0 found.1
+  refused_for Repair (BadMap chunk) ends = absurd ends
+  refused_for Repair (BadBits zone block) ends = absurd ends
   refused_for Show kind ends = λ image is. never_refused kind image (ends image is)
   refused_for (Relabel label) kind ends = λ image is. never_refused kind image (ends image is)
   refused_for (Upgrade volume) kind ends = λ image is. never_refused kind image (ends image is)
@@ -247,6 +272,14 @@ module _ (zones : Option Image) (told : Option Shape) where
       → AskedEnds asked zones told (NoVolume l) → k ≡ l
   one_kind (Format reserved volume) k l image is h i = absurd h
   one_kind Check k l image is h i = one_refusal k l image (h image is) (i image is)
+  one_kind Repair NoSuperBlock NoSuperBlock image is h i = refl
+  one_kind Repair NoSuperBlock Layout image is h i = absurd (none_or_layout image (h image is) (i image is))
+  one_kind Repair Layout NoSuperBlock image is h i = absurd (none_or_layout image (i image is) (h image is))
+  one_kind Repair Layout Layout image is h i = refl
+  one_kind Repair (BadMap chunk) l image is h i = absurd h
+  one_kind Repair (BadBits zone block) l image is h i = absurd h
+  one_kind Repair k (BadMap chunk) image is h i = absurd i
+  one_kind Repair k (BadBits zone block) image is h i = absurd i
   one_kind Show k l image is h i = one_refusal k l image (h image is) (i image is)
   one_kind (Relabel label) k l image is h i = one_refusal k l image (h image is) (i image is)
   one_kind (Upgrade volume) k l image is h i = one_refusal k l image (h image is) (i image is)
@@ -256,6 +289,7 @@ module _ (zones : Option Image) (told : Option Shape) where
       → IsAdminDecided p → AskedEnds asked zones told o → AskedEnds asked zones told p → o ≡ p
   one_work (Format reserved volume) here o p c k d e f h = one_format reserved told o p d e f h
   one_work Check here o p c k d e f h = let image = some_of zones (here tt) in one_check zones image.0 image.1 o p c k d e f h
+  one_work Repair here o p c k d e f h = let image = some_of zones (here tt) in one_mend zones image.0 image.1 o p c k d e f h
   one_work Show here o p c k d e f h = let image = some_of zones (here tt) in one_show zones image.0 image.1 o p c k d e f h
   one_work (Relabel label) here o p c k d e f h =
       let image = some_of zones (here tt) in one_relabel zones image.0 image.1 o p c k d e f h

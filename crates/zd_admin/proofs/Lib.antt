@@ -2,6 +2,9 @@ pub mod WordLaws
 pub mod AskLaws
 pub mod TextLaws
 pub mod ShownLaws
+pub mod LeftOnce
 pub mod CauseLaws
 pub mod EndLaws
+pub mod HeadEnds
+pub mod RepairLaws
 pub mod RunLaws

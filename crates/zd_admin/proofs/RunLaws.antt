@@ -18,7 +18,7 @@ use Rattle.zd_admin.specs.Admin.{AdminReports, AskedLeaves, DiffersBy, EndsWell,
 use Rattle.zd_admin.specs.declared.outcome.Outcome.{Outcome}
 use Rattle.zd_admin.specs.declared.outcome.Outcome.TheVariants.{Done, Usage, NoVolume, Device, Memory, Generation, Differs, Unfit, Old, NotOld}
 use Rattle.zd_admin.specs.declared.words.Asked.{Asked}
-use Rattle.zd_admin.specs.declared.words.Asked.TheVariants.{Format, Check, Show, Relabel, Upgrade}
+use Rattle.zd_admin.specs.declared.words.Asked.TheVariants.{Format, Check, Repair, Relabel, Show, Upgrade}
 
 none_before : (words : List (List ℕ)) (zones : Option Image) (s : RunStage) → stage_order s < 0 → AdminPassed words zones s
 none_before words zones s early = absurd (omega (arith, early))
@@ -108,6 +108,7 @@ module _ (words : List (List ℕ)) (u v : View) (asked : Asked) (asks : Asks wor
   last_for : (a : Asked) → AskedEnds a u.zones v.told Generation → WhereTold u.zones (IsLastFor a)
   last_for (Format reserved volume) ends = absurd ends
   last_for Check ends = absurd ends
+  last_for Repair ends = ends
   last_for Show ends = absurd ends
   last_for (Relabel label) ends = ends
   last_for (Upgrade volume) ends = ends
@@ -127,6 +128,7 @@ module _ (words : List (List ℕ)) (u v : View) where
   old_by (Relabel label) Old asks ends leaves is = (label, asks, ends, leaves)
   old_by (Format reserved volume) Old asks ends leaves is = absurd ends
   old_by Check Old asks ends leaves is = absurd ends
+  old_by Repair Old asks ends leaves is = absurd ends
   old_by Show Old asks ends leaves is = absurd ends
   old_by (Upgrade volume) Old asks ends leaves is = absurd ends
   old_by asked o asks ends leaves is = absurd (omega (arith, is))
@@ -136,6 +138,7 @@ module _ (words : List (List ℕ)) (u v : View) where
   not_old_by (Upgrade volume) NotOld asks ends leaves is = (volume, asks, ends, leaves)
   not_old_by (Format reserved volume) NotOld asks ends leaves is = absurd ends
   not_old_by Check NotOld asks ends leaves is = absurd ends
+  not_old_by Repair NotOld asks ends leaves is = absurd ends
   not_old_by Show NotOld asks ends leaves is = absurd ends
   not_old_by (Relabel label) NotOld asks ends leaves is = absurd ends
   not_old_by asked o asks ends leaves is = absurd (omega (arith, is))
@@ -147,6 +150,7 @@ heads_when P Q f keeps = record { way = keeps.way; kept = keeps.kept; settled = 
 pub keeps_when : (asked : Asked) (P Q : Type 0) (u v : View) → (Q → P) → KeepsAsked asked P u v → KeepsAsked asked Q u v
 keeps_when (Format reserved volume) P Q u v f keeps = tt
 keeps_when Check P Q u v f keeps = keeps
+keeps_when Repair P Q u v f keeps = record { way = keeps.way; kept = keeps.kept; settled = λ q. keeps.settled (f q) }
 keeps_when Show P Q u v f keeps = keeps
 keeps_when (Relabel label) P Q u v f keeps = heads_when P Q f keeps
 keeps_when (Upgrade volume) P Q u v f keeps = heads_when P Q f keeps
@@ -168,6 +172,7 @@ module _ (words : List (List ℕ)) (zones : Option Image) (told : Option Shape) 
     asks = asks;
     differs = λ image here. (verdict_of difference, ends image here, differs_not_same difference);
   }
+  differs_by Repair (Differs difference) asks ends is = absurd ends
   differs_by Show (Differs difference) asks ends is = absurd ends
   differs_by (Relabel label) (Differs difference) asks ends is = absurd ends
   differs_by (Upgrade volume) (Differs difference) asks ends is = absurd ends
@@ -176,6 +181,7 @@ module _ (words : List (List ℕ)) (zones : Option Image) (told : Option Shape) 
   unfit_by : (asked : Asked) (o : Outcome) → Asks words asked → AskedEnds asked zones told o → admin_status o ≡ 10 → IsUnfitBy words told
   unfit_by (Format reserved volume) Unfit asks ends is = (reserved, volume, asks, ends)
   unfit_by Check Unfit asks ends is = absurd ends
+  unfit_by Repair Unfit asks ends is = absurd ends
   unfit_by Show Unfit asks ends is = absurd ends
   unfit_by (Relabel label) Unfit asks ends is = absurd ends
   unfit_by (Upgrade volume) Unfit asks ends is = absurd ends

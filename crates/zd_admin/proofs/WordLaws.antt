@@ -10,9 +10,8 @@ use Rattle.std.specs.Str.Parse.{ParsesUnsigned}
 use Rattle.std.proofs.lemmas.Fmt.{parse-decimal}
 use Rattle.std.proofs.lemmas.List.{drop-replicate, length-map}
 use Rattle.zd_ports.specs.Words.{is_option}
-use Rattle.zd_admin.specs.Words.{AsksAlone, AsksCheck, AsksRelabel, AsksStatus, AsksUpgrade, IsAdminCommand, IsFormatCommand, IsLabel}
-use Rattle.zd_admin.specs.declared.words.Asked.{Asked}
-use Rattle.zd_admin.specs.declared.words.Asked.TheVariants.{Format, Check, Show, Relabel, Upgrade}
+use Rattle.zd_admin.specs.Words.{AsksAlone, AsksCheck, AsksRelabel, AsksRepair, AsksStatus, AsksUpgrade, IsAdminCommand, IsFormatCommand, IsLabel}
+use Rattle.zd_admin.specs.declared.words.Asked.TheVariants.{Format, Check, Repair, Relabel, Show, Upgrade}
 use Rattle.zd_model.specs.Text.{numeral}
 use Rattle.zd_model.proofs.Decimals.{numeral_decimal}
 use Rattle.zd_model.proofs.TextLaws.{same_numeral}
@@ -145,14 +144,15 @@ pub not_so : {P : Type 0} (b : Bool) → b ≡ false → (IsTrue b ↔ P) → P 
 not_so b e h p = false≢true (sym e ∙ h.1 p)
 
 -- words that ask for nothing are no command
-pub no_command : (words : List (List ℕ)) → (AsksCheck words → ⊥) → (AsksStatus words → ⊥)
+pub no_command : (words : List (List ℕ)) → (AsksCheck words → ⊥) → (AsksRepair words → ⊥) → (AsksStatus words → ⊥)
     → ((label : List ℕ) → AsksRelabel words label → ⊥) → ((volume : List ℕ) → AsksUpgrade words volume → ⊥)
     → (IsFormatCommand words → ⊥) → IsAdminCommand words → ⊥
-no_command words check status relabel upgrade format (Format reserved volume, asks) = format (reserved, volume, asks)
-no_command words check status relabel upgrade format (Check, asks) = check asks
-no_command words check status relabel upgrade format (Show, asks) = status asks
-no_command words check status relabel upgrade format (Relabel label, asks) = relabel label asks
-no_command words check status relabel upgrade format (Upgrade volume, asks) = upgrade volume asks
+no_command words check repair status relabel upgrade format (Format reserved volume, asks) = format (reserved, volume, asks)
+no_command words check repair status relabel upgrade format (Check, asks) = check asks
+no_command words check repair status relabel upgrade format (Show, asks) = status asks
+no_command words check repair status relabel upgrade format (Repair, asks) = repair asks
+no_command words check repair status relabel upgrade format (Relabel label, asks) = relabel label asks
+no_command words check repair status relabel upgrade format (Upgrade volume, asks) = upgrade volume asks
 
 -- a label's bytes, and zeros behind them
 pub is_label_word : (word bytes copied : List ℕ) → bytes ≡ word → (length bytes ≤ 32) × All (λ b. b ≢ 0) bytes → copied ≡ bytes

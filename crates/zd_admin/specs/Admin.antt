@@ -1,5 +1,5 @@
 -- What a run is promised to do and to tell.
-use Rattle.std.specs.Prelude.{◌≡◌, ◌⊎◌, ℕ, ◌+◌, ◌≤◌, List, replicate, Option}
+use Rattle.std.specs.Prelude.{◌≡◌, ◌⊎◌, ℕ, ◌+◌, List, replicate, Option}
 use Rattle.zd_base.specs.Geometry.{Shape}
 use Rattle.zd_base.specs.Layout.{formatted}
 use Rattle.zd_check.specs.Verdicts.{IsVerdict}
@@ -14,7 +14,10 @@ use Rattle.zd_model.specs.Volume.{WellFormed}
 use Rattle.zd_model.specs.declared.metadata.Super.{Super as Head}
 use Rattle.zd_repair.specs.Reheaded.{HasChangedHeads, IsKeptBut, IsLeftOrBut, IsOnlyOpened, KeepsFromBut}
 use Rattle.zd_repair.specs.Relabeled.{relabeled}
+use Rattle.zd_repair.specs.Repairing.{ExplainsRepair, HasOnlyEqualled, HasRepaired, IsLeftOrPart, IsSameOrPart, KeepsPartFrom}
 use Rattle.zd_repair.specs.Upgraded.{upgraded}
+use Rattle.zd_repair.specs.declared.repairing.RepairFault.TheVariants as repairs
+use Rattle.zd_repair.specs.declared.tables.Repaired.{Repaired as Dropped}
 use Rattle.zd_tell.specs.Stages.{EndsIn, RunStage}
 use Rattle.zd_tell.specs.Telling.{IsDone, TellsMessage}
 use Rattle.zd_admin.specs.Words.{Asks, AsksCheck, AsksFormat, AsksRelabel, AsksUpgrade}
@@ -23,7 +26,7 @@ use Rattle.zd_admin.specs.Ends.{AdminCause, AdminMayEnd, IsAdminDecided, IsAtLas
 use Rattle.zd_admin.specs.declared.outcome.Outcome.{Outcome}
 use Rattle.zd_admin.specs.declared.outcome.Outcome.TheVariants.{Done, NoVolume, Generation, Unfit, Old, NotOld}
 use Rattle.zd_admin.specs.declared.words.Asked.{Asked}
-use Rattle.zd_admin.specs.declared.words.Asked.TheVariants.{Format, Check, Show, Relabel, Upgrade}
+use Rattle.zd_admin.specs.declared.words.Asked.TheVariants.{Format, Check, Repair, Relabel, Show, Upgrade}
 
 -- a run ended in a stage with an outcome, whose cause holds, and told of it
 pub record AdminReports
@@ -45,10 +48,12 @@ WasMade reserved volume image =
     IsFresh reserved no_label volume (formatted image.geometry reserved) image
 
 -- what was asked for was done: the disk is the volume that was to be made, also after a stop; it was a volume both
--- of whose sets are the same; it was a volume; or it is the volume that it was, with the new head in both sets
+-- of whose sets are the same; it is a volume without what was wrong; it was a volume; or it is the volume that it was,
+-- with the new head in both sets
 abbrev pub WasDone : Asked → View → View → Type 0
 WasDone (Format reserved volume) u v = Holds (WasMade reserved volume) v
 WasDone Check u v = WhereTold u.zones (λ image. IsVerdict image Same)
+WasDone Repair u v = (dropped : Dropped) × HasRepaired dropped u v
 WasDone Show u v = WhereTold u.zones WellFormed
 WasDone (Relabel label) u v = HasChangedHeads 2 (relabeled label) u v
 WasDone (Upgrade volume) u v = HasChangedHeads 1 (upgraded no_label volume) u v
@@ -62,12 +67,14 @@ LeavesRefused asked u v = IsFlushed u v
 
 -- it needs a next generation, and there is none
 abbrev pub IsLastFor : Asked → Image → Type 0
+IsLastFor Repair image = ExplainsRepair repairs.Generation image
 IsLastFor (Relabel label) image = IsAtLast 2 image
 IsLastFor (Upgrade volume) image = IsAtLast 1 image
 IsLastFor asked image = ⊥
 
--- what was done then: the volume was opened, and nothing else
+-- what was done then: both sets were made equal, or the volume was opened, and nothing else
 abbrev pub LeavesLast : Asked → View → View → Type 0
+LeavesLast Repair u v = HasOnlyEqualled u v
 LeavesLast (Relabel label) u v = IsOnlyOpened u v
 LeavesLast (Upgrade volume) u v = IsOnlyOpened u v
 LeavesLast asked u v = ⊥
@@ -90,10 +97,17 @@ pub record KeepsHeads (change : Head → Head) (flushed : Type 0) (u v : View) :
   pub kept : Keeps (IsKeptBut change) u v
   pub settled : flushed → KeepsFromBut change (u.calls + 1) u v
 
+-- and where a disk is repaired: each image is the one before, or partly repaired, which no repair refuses
+pub record KeepsRepair (flushed : Type 0) (u v : View) : Type 0 where
+  pub way : ReachesBy IsLeftOrPart u v
+  pub kept : Keeps IsSameOrPart u v
+  pub settled : flushed → KeepsPartFrom (u.calls + 1) u v
+
 -- what is kept at any answer: checking and showing write nothing
 abbrev pub KeepsAsked : Asked → Type 0 → View → View → Type 0
 KeepsAsked (Format reserved volume) flushed u v = Unit {0}
 KeepsAsked Check flushed u v = OnlyReads u v
+KeepsAsked Repair flushed u v = KeepsRepair flushed u v
 KeepsAsked Show flushed u v = OnlyReads u v
 KeepsAsked (Relabel label) flushed u v = KeepsHeads (relabeled label) flushed u v
 KeepsAsked (Upgrade volume) flushed u v = KeepsHeads (upgraded no_label volume) flushed u v

@@ -10,6 +10,8 @@ use Rattle.zd_format.specs.declared.formatting.Formatted.{Formatted as Made}
 use Rattle.zd_model.specs.declared.texts.NoVolume.TheVariants as kinds
 use Rattle.zd_repair.specs.declared.relabeling.RelabelFault.{RelabelFault}
 use Rattle.zd_repair.specs.declared.relabeling.RelabelFault.TheVariants as relabels
+use Rattle.zd_repair.specs.declared.repairing.RepairFault.{RepairFault}
+use Rattle.zd_repair.specs.declared.repairing.RepairFault.TheVariants as repairs
 use Rattle.zd_repair.specs.declared.upgrading.UpgradeFault.{UpgradeFault}
 use Rattle.zd_repair.specs.declared.upgrading.UpgradeFault.TheVariants as upgrades
 use Rattle.zd_admin.specs.declared.outcome.AdminWork.TheVariants.{Formatted, Checked, Shown}
@@ -45,6 +47,14 @@ check_outcome (Err fault) = examine_outcome fault
 abbrev pub status_outcome : Result VolumeStatus OpenFault → Outcome
 status_outcome (Ok status) = Done (Shown status)
 status_outcome (Err fault) = examine_outcome fault
+
+-- a repair that wasn't made
+abbrev pub repair_outcome : RepairFault → Outcome
+repair_outcome repairs.NoSuperBlock = NoVolume kinds.NoSuperBlock
+repair_outcome repairs.Layout = NoVolume kinds.Layout
+repair_outcome repairs.Device = Device
+repair_outcome repairs.Generation = Generation
+repair_outcome repairs.Memory = Memory
 
 -- a new label that wasn't given, and an upgrade that wasn't made
 abbrev pub relabel_outcome : RelabelFault → Outcome

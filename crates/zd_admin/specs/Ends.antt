@@ -1,31 +1,36 @@
 -- How a run ends: in which stage, and for which cause.
-use Rattle.std.specs.Prelude.{◌≡◌, ℕ, ◌+◌, ◌-◌, ◌<◌, ◌^◌, List, IsSome, Option}
+use Rattle.std.specs.Prelude.{◌≡◌, ℕ, ◌+◌, ◌-◌, ◌<◌, ◌^◌, List, length, IsSome, Option}
 use Rattle.zd_base.specs.Geometry.{Shape}
 use Rattle.zd_base.specs.Layout.{formatted}
 use Rattle.zd_check.specs.Verdicts.{IsVerdict}
 use Rattle.zd_check.specs.declared.comparing.Verdict.{Verdict}
 use Rattle.zd_check.specs.declared.comparing.Verdict.TheVariants as verdicts
 use Rattle.zd_disk.specs.Told.{WhereTold}
-use Rattle.zd_examine.specs.Examined.{ExplainsRefusal}
+use Rattle.zd_examine.specs.Examined.{ExplainsRefusal, IsPlacedSet}
 use Rattle.zd_examine.specs.declared.examining.OpenFault.{OpenFault}
 use Rattle.zd_examine.specs.declared.examining.OpenFault.TheVariants as faults
 use Rattle.zd_format.specs.Fresh.{IsFormatted, IsUnfit}
 use Rattle.zd_model.specs.Image.{Image}
-use Rattle.zd_model.specs.Volume.{Chosen, IsWellFormed, WellFormed}
+use Rattle.zd_model.specs.Tables.{Tables}
+use Rattle.zd_model.specs.Volume.{Chosen, IsWellFormed, WellFormed, tables_of}
 use Rattle.zd_model.specs.declared.texts.NoVolume.{NoVolume as Kind}
 use Rattle.zd_model.specs.declared.texts.NoVolume.TheVariants as kinds
+use Rattle.zd_repair.specs.Repaired.{CountsDropped, IsNothing}
+use Rattle.zd_repair.specs.Repairing.{AreLeft, ExplainsRepair}
+use Rattle.zd_repair.specs.declared.repairing.RepairFault.TheVariants as repairs
+use Rattle.zd_repair.specs.declared.tables.Repaired.{Repaired as Dropped}
 use Rattle.zd_tell.specs.Stages.{CausesExclude, Course, MayEnd, RunStage}
 use Rattle.zd_tell.specs.Stages.RunStage.{Words, Opening, Run}
 use Rattle.zd_admin.specs.Words.{Asks, IsAdminCommand}
 use Rattle.zd_admin.specs.Output.{admin_status}
 use Rattle.zd_admin.specs.Shown.{IsStatus}
-use Rattle.zd_admin.specs.declared.outcome.AdminWork.TheVariants.{Formatted, Checked, Shown, Relabeled, Upgraded}
+use Rattle.zd_admin.specs.declared.outcome.AdminWork.TheVariants.{Formatted, Checked, Repaired, Shown, Relabeled, Upgraded}
 use Rattle.zd_admin.specs.declared.outcome.Difference.{Difference}
 use Rattle.zd_admin.specs.declared.outcome.Difference.TheVariants as differences
 use Rattle.zd_admin.specs.declared.outcome.Outcome.{Outcome}
 use Rattle.zd_admin.specs.declared.outcome.Outcome.TheVariants.{Done, Usage, NoVolume, Device, Memory, Generation, Differs, Unfit, Old, NotOld}
 use Rattle.zd_admin.specs.declared.words.Asked.{Asked}
-use Rattle.zd_admin.specs.declared.words.Asked.TheVariants.{Format, Check, Show, Relabel, Upgrade}
+use Rattle.zd_admin.specs.declared.words.Asked.TheVariants.{Format, Check, Repair, Relabel, Show, Upgrade}
 
 -- the answer of examining that tells so
 abbrev pub refusal_of : Kind → OpenFault
@@ -62,6 +67,25 @@ CheckEnds zones (Done Checked) = WhereTold zones (λ image. IsVerdict image verd
 CheckEnds zones (Differs difference) = WhereTold zones (λ image. IsVerdict image (verdict_of difference))
 CheckEnds zones outcome = ExamineEnds zones outcome
 
+-- a set is chosen that can be repaired: so much is wrong in its tables, and where that isn't nothing, its generation
+-- can rise
+pub record CanRepair (dropped : Dropped) (image : Image) : Type 0 where
+  pub set : Chosen
+  pub placed : IsPlacedSet image set
+  pub left : Tables
+  pub count : length left.entries ≡ set.head.layout.chunks
+  pub tables : AreLeft set image left
+  pub counts : CountsDropped image.geometry set.head.layout (tables_of image set) left dropped
+  pub rises : (IsNothing dropped → ⊥) → set.head.generation + 1 < 2 ^ 64
+
+-- how a repair ends, which refuses no disk for its tables
+abbrev pub RepairEnds : Option Image → Outcome → Type 0
+RepairEnds zones (Done (Repaired dropped)) = WhereTold zones (CanRepair dropped)
+RepairEnds zones Generation = WhereTold zones (ExplainsRepair repairs.Generation)
+RepairEnds zones (NoVolume (kinds.BadMap chunk)) = ⊥
+RepairEnds zones (NoVolume (kinds.BadBits zone block)) = ⊥
+RepairEnds zones outcome = ExamineEnds zones outcome
+
 -- how showing a volume ends
 abbrev pub ShowEnds : Option Image → Outcome → Type 0
 ShowEnds zones (Done (Shown status)) = WhereTold zones (λ image. IsStatus image status)
@@ -97,6 +121,7 @@ UpgradeEnds zones outcome = ExamineEnds zones outcome
 abbrev pub AskedEnds : Asked → Option Image → Option Shape → Outcome → Type 0
 AskedEnds (Format reserved volume) zones told outcome = FormatEnds reserved told outcome
 AskedEnds Check zones told outcome = CheckEnds zones outcome
+AskedEnds Repair zones told outcome = RepairEnds zones outcome
 AskedEnds Show zones told outcome = ShowEnds zones outcome
 AskedEnds (Relabel label) zones told outcome = RelabelEnds zones outcome
 AskedEnds (Upgrade volume) zones told outcome = UpgradeEnds zones outcome
@@ -109,6 +134,7 @@ Examines asked = Unit {0}
 -- what the image has to be for it
 abbrev pub IsOpenedFor : Asked → Image → Type 0
 IsOpenedFor (Format reserved volume) image = Unit {0}
+IsOpenedFor Repair image = (c : Chosen) × IsPlacedSet image c
 IsOpenedFor asked image = WellFormed image
 
 -- the outcomes that may come while a disk is examined, and once that is done, or where nothing is examined

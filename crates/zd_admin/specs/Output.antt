@@ -7,8 +7,9 @@ use Rattle.zd_model.specs.declared.metadata.Super.{Super as Head}
 use Rattle.zd_model.specs.declared.texts.NoVolume.{NoVolume as Kind}
 use Rattle.zd_model.specs.declared.texts.NoVolume.TheVariants.{BadMap, BadBits}
 use Rattle.zd_model.specs.declared.texts.Outcome.TheVariants as runs
+use Rattle.zd_repair.specs.declared.tables.Repaired.{Repaired as Dropped}
 use Rattle.zd_tell.specs.Telling.{Telling}
-use Rattle.zd_admin.specs.declared.outcome.AdminWork.TheVariants.{Formatted, Checked, Shown, Relabeled, Upgraded}
+use Rattle.zd_admin.specs.declared.outcome.AdminWork.TheVariants.{Formatted, Checked, Repaired, Shown, Relabeled, Upgraded}
 use Rattle.zd_admin.specs.declared.outcome.Difference.{Difference}
 use Rattle.zd_admin.specs.declared.outcome.Difference.TheVariants.{Super, Block}
 use Rattle.zd_admin.specs.declared.outcome.Outcome.{Outcome}
@@ -60,10 +61,14 @@ unfoldable pub free_line : VolumeStatus → List ℕ
 free_line status = number_after (codes "free ") status.free_conventional
     ++ (number_after (codes " conventional ") status.free_sequential ++ codes " sequential\n")
 
--- what is told of a disk that was formatted, and of a volume that is shown
+-- what is told of a disk that was formatted, of one that was repaired, and of a volume that is shown
 abbrev pub formatted_text : ℕ → ℕ → List ℕ
 formatted_text chunks zone_blocks = number_after (codes "formatted ") chunks
     ++ (number_after (codes " chunks of ") zone_blocks ++ codes " blocks\nend 0 ok\n")
+
+abbrev pub repaired_text : Dropped → List ℕ
+repaired_text dropped = number_after (codes "repaired ") dropped.entries
+    ++ (number_after (codes " entries ") dropped.bits ++ codes " bits\nend 0 ok\n")
 
 abbrev pub shown_text : VolumeStatus → List ℕ
 shown_text status =
@@ -82,6 +87,7 @@ refused_text kind = outcome_text (runs.NoVolume kind)
 abbrev pub admin_output : Outcome → List ℕ
 admin_output (Done (Formatted chunks zone_blocks)) = formatted_text chunks zone_blocks
 admin_output (Done Checked) = codes "end 0 ok\n"
+admin_output (Done (Repaired dropped)) = repaired_text dropped
 admin_output (Done (Shown status)) = shown_text status
 admin_output (Done Relabeled) = codes "end 0 ok\n"
 admin_output (Done Upgraded) = codes "end 0 ok\n"
@@ -102,6 +108,7 @@ admin_telling outcome = record { text = admin_output outcome; status = admin_sta
 -- its line tells no number, so no memory is needed for it
 abbrev pub IsFixedOutput : Outcome → Type 0
 IsFixedOutput (Done (Formatted chunks zone_blocks)) = ⊥
+IsFixedOutput (Done (Repaired dropped)) = ⊥
 IsFixedOutput (Done (Shown status)) = ⊥
 IsFixedOutput (Differs difference) = ⊥
 IsFixedOutput (NoVolume (BadMap chunk)) = ⊥

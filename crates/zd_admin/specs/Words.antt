@@ -5,7 +5,7 @@ use Rattle.uuid.specs.Text.{parsed}
 use Rattle.zd_model.specs.Text.{numeral}
 use Rattle.zd_ports.specs.Words.{is_option}
 use Rattle.zd_admin.specs.declared.words.Asked.{Asked}
-use Rattle.zd_admin.specs.declared.words.Asked.TheVariants.{Format, Check, Show, Relabel, Upgrade}
+use Rattle.zd_admin.specs.declared.words.Asked.TheVariants.{Format, Check, Repair, Relabel, Show, Upgrade}
 
 -- `--format --seq R --uuid U IMAGE`: the words ask to format an image with so many reserved zones,
 -- and with this identifier of the volume
@@ -31,6 +31,10 @@ pub record AsksAlone (option : List ℕ) (words : List (List ℕ)) : Type 0 wher
 -- `--check IMAGE`: the words ask to check an image
 abbrev pub AsksCheck : List (List ℕ) → Type 0
 AsksCheck words = AsksAlone (codes "--check") words
+
+-- `--repair IMAGE`: they ask to make a volume of what an image holds again
+abbrev pub AsksRepair : List (List ℕ) → Type 0
+AsksRepair words = AsksAlone (codes "--repair") words
 
 -- `--status IMAGE`: they ask to show the volume on an image
 abbrev pub AsksStatus : List (List ℕ) → Type 0
@@ -62,6 +66,7 @@ AsksUpgrade words volume = (id : List ℕ) × AsksWith (codes "--upgrade") (code
 abbrev pub Asks : List (List ℕ) → Asked → Type 0
 Asks words (Format reserved volume) = AsksFormat words reserved volume
 Asks words Check = AsksCheck words
+Asks words Repair = AsksRepair words
 Asks words Show = AsksStatus words
 Asks words (Relabel label) = AsksRelabel words label
 Asks words (Upgrade volume) = AsksUpgrade words volume

@@ -1,7 +1,7 @@
 //! How a run ends, by the answer of what was asked for.
 
 ghost use Rattle.std.specs.Prelude.{◌≡◌};
-ghost use Rattle.zd_admin.specs.Answers.{check_outcome, examine_outcome, format_outcome, relabel_outcome, status_outcome, upgrade_outcome};
+ghost use Rattle.zd_admin.specs.Answers.{check_outcome, examine_outcome, format_outcome, relabel_outcome, repair_outcome, status_outcome, upgrade_outcome};
 
 use crate::outcome::{AdminWork, Difference, Outcome};
 use crate::volume::VolumeStatus;
@@ -9,7 +9,7 @@ use zd_check::Verdict;
 use zd_examine::OpenFault;
 use zd_format::{FormatFault, Formatted};
 use zd_model::NoVolume;
-use zd_repair::{RelabelFault, UpgradeFault};
+use zd_repair::{RelabelFault, RepairFault, UpgradeFault};
 
 /// How a run ends whose disk can't be examined, or is no volume.
 pub fn examine_outcome(fault: OpenFault) -> Outcome
@@ -59,6 +59,19 @@ pub fn status_outcome(answer: Result<VolumeStatus, OpenFault>) -> Outcome
     match answer {
         Ok(status) => Outcome::Done(AdminWork::Shown(status)),
         Err(fault) => examine_outcome(fault),
+    }
+}
+
+/// How a run ends where no repair was made.
+pub fn repair_outcome(fault: RepairFault) -> Outcome
+    ensures { result ≡ repair_outcome fault }
+{
+    match fault {
+        RepairFault::NoSuperBlock => Outcome::NoVolume(NoVolume::NoSuperBlock),
+        RepairFault::Layout => Outcome::NoVolume(NoVolume::Layout),
+        RepairFault::Device => Outcome::Device,
+        RepairFault::Generation => Outcome::Generation,
+        RepairFault::Memory => Outcome::Memory,
     }
 }
 

@@ -5,7 +5,7 @@ ghost use Rattle.zd_disk.specs.View.{HasFailed, OnlyReads};
 ghost use Rattle.zd_admin.specs.Admin.{AskedLeaves, EndsAsked, KeepsAsked, no_label};
 
 use crate::answers::{
-    check_outcome, format_outcome, relabel_outcome, status_outcome, upgrade_outcome,
+    check_outcome, format_outcome, relabel_outcome, repair_outcome, status_outcome, upgrade_outcome,
 };
 use crate::outcome::{AdminWork, Outcome};
 use crate::volume::volume_status;
@@ -15,7 +15,7 @@ use uuid::Uuid;
 use zd_check::check;
 use zd_disk::ZonedDisk;
 use zd_format::format_disk;
-use zd_repair::{relabel, upgrade};
+use zd_repair::{relabel, repair, upgrade};
 
 /// The label of a volume that gets none.
 const NO_LABEL: [u8; LABEL] = [0; LABEL];
@@ -40,6 +40,21 @@ fn run_check<D: ZonedDisk>(alloc: Global, mut disk: D) -> (Outcome, D)
 {
     let answer = check(alloc, &mut disk);
     (check_outcome(answer), disk)
+}
+
+/// Makes a volume of a disk again.
+fn run_repair<D: ZonedDisk>(alloc: Global, disk: D) -> (Outcome, D)
+    ensures ended { EndsAsked Asked.Repair (D.view disk) (D.view result.1) result.0 }
+    ensures leaves { AskedLeaves Asked.Repair result.0 (D.view disk) (D.view result.1) }
+    ensures kept { KeepsAsked Asked.Repair
+        (result.0 ≡ Outcome.Device → (D.view disk).calls + 2 ≤ (D.view result.1).calls)
+        (D.view disk) (D.view result.1) }
+    ensures cause { result.0 ≡ Outcome.Device → HasFailed (D.view disk) (D.view result.1) }
+{
+    match repair(alloc, disk) {
+        Ok((dropped, disk)) => (Outcome::Done(AdminWork::Repaired(dropped)), disk),
+        Err((fault, disk)) => (repair_outcome(fault), disk),
+    }
 }
 
 /// Shows the volume on a disk.
@@ -96,6 +111,7 @@ pub fn run<D: ZonedDisk>(alloc: Global, disk: D, asked: Asked) -> (Outcome, D)
     match asked {
         Asked::Format { reserved, volume } => run_format(alloc, disk, reserved, volume),
         Asked::Check => run_check(alloc, disk),
+        Asked::Repair => run_repair(alloc, disk),
         Asked::Show => run_status(alloc, disk),
         Asked::Relabel { label } => run_relabel(alloc, disk, label),
         Asked::Upgrade { volume } => run_upgrade(alloc, disk, volume),

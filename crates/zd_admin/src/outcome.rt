@@ -3,11 +3,12 @@
 ghost use Rattle.std.specs.Prelude.{◌≡◌, IfNone, IfOk, IfSome};
 ghost use Rattle.zd_admin.specs.Output.{IsFixedOutput, admin_status, admin_telling};
 
-use crate::texts::{differs_text, formatted_text, refused_text, shown_text};
+use crate::texts::{differs_text, formatted_text, refused_text, repaired_text, shown_text};
 use crate::volume::VolumeStatus;
 use std::alloc::Global;
 use zd_base::{Memory, Status};
 use zd_model::NoVolume;
+use zd_repair::Repaired;
 use zd_report::fixed_line;
 use zd_tell::Message;
 
@@ -18,6 +19,8 @@ pub enum AdminWork {
     Formatted { chunks: u32, zone_blocks: u32 },
     /// The disk was checked, and both sets of metadata are the same.
     Checked,
+    /// The disk is a volume: so much was wrong in its tables, and was dropped.
+    Repaired(Repaired),
     /// The disk is this volume.
     Shown(VolumeStatus),
     /// The volume has the label that was asked for.
@@ -82,7 +85,9 @@ impl Message for Outcome {
 
     fn line(&self) -> Option<&'static str> {
         match self {
-            Outcome::Done(AdminWork::Formatted { .. } | AdminWork::Shown(_))
+            Outcome::Done(
+                AdminWork::Formatted { .. } | AdminWork::Repaired(_) | AdminWork::Shown(_),
+            )
             | Outcome::NoVolume(NoVolume::BadMap { .. } | NoVolume::BadBits { .. })
             | Outcome::Differs(_) => None,
             Outcome::Done(AdminWork::Checked | AdminWork::Relabeled | AdminWork::Upgraded) => {
@@ -107,6 +112,9 @@ impl Message for Outcome {
                     zone_blocks,
                 },
             ) => formatted_text(alloc, *chunks, *zone_blocks).map_err(|_| Memory),
+            Outcome::Done(AdminWork::Repaired(dropped)) => repaired_text(alloc, dropped).map_err(
+                |_| Memory,
+            ),
             Outcome::Done(AdminWork::Shown(volume)) => shown_text(alloc, volume).map_err(
                 |_| Memory,
             ),

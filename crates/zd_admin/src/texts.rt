@@ -3,7 +3,7 @@
 ghost use Rattle.std.specs.Prelude.{◌≡◌, ◌++◌, IfOk, OnOk, string_bytes};
 ghost use Rattle.zd_model.specs.Report.{run_output};
 ghost use Rattle.zd_model.specs.Text.{numeral};
-ghost use Rattle.zd_admin.specs.Output.{chunks_line, differs_text, formatted_text, free_line, head_lines, id_line, label_line, number_after, number_line, refused_text, shown_text};
+ghost use Rattle.zd_admin.specs.Output.{chunks_line, differs_text, formatted_text, free_line, head_lines, id_line, label_line, number_after, number_line, refused_text, repaired_text, shown_text};
 
 use crate::outcome::Difference;
 use crate::volume::VolumeStatus;
@@ -12,6 +12,7 @@ use uuid::Uuid;
 use zd_base::Memory;
 use zd_model::{NoVolume, Super};
 use zd_plain::History;
+use zd_repair::Repaired;
 use zd_report::output_text;
 
 /// Appends a number, without leading zeros.
@@ -103,6 +104,17 @@ pub fn formatted_text(alloc: Global, chunks: u32, zone_blocks: u32) -> Result<Ve
     add_number_after(&mut text, "formatted ", u64::from(chunks))?;
     add_number_after(&mut text, " chunks of ", u64::from(zone_blocks))?;
     text.push_str(" blocks\nend 0 ok\n")?;
+    Ok(text.into_bytes())
+}
+
+/// The output of a run that repaired a disk.
+pub fn repaired_text(alloc: Global, dropped: &Repaired) -> Result<Vec<u8>, AllocError>
+    ensures { IfOk result (λ text. text.items ≡ repaired_text dropped.now) }
+{
+    let mut text = String::new(alloc);
+    add_number_after(&mut text, "repaired ", u64::from(dropped.entries))?;
+    add_number_after(&mut text, " entries ", dropped.bits)?;
+    text.push_str(" bits\nend 0 ok\n")?;
     Ok(text.into_bytes())
 }
 

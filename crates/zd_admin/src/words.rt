@@ -30,6 +30,8 @@ pub enum Asked {
     },
     /// Whether both sets of metadata are the same.
     Check,
+    /// The disk is to become a volume again, without what is wrong in its tables.
+    Repair,
     /// What the volume is, and how much of it is in use.
     Show,
     /// The volume is to have this label.
@@ -177,6 +179,9 @@ pub fn command(words: &[String]) -> Option<Asked>
 {
     if asks_alone("--check", words) {
         return Some(Asked::Check);
+    }
+    if asks_alone("--repair", words) {
+        return Some(Asked::Repair);
     }
     if asks_alone("--status", words) {
         return Some(Asked::Show);

@@ -21,7 +21,8 @@ use Rattle.zd_sets.specs.Stages.{next_head}
 use Rattle.zd_sets.specs.declared.choice.Chosen.{Chosen as Choice}
 use Rattle.zd_sets.proofs.EqualLaws.{first_block, only_more, only_then, same_good, same_only}
 use Rattle.zd_sets.proofs.VolumeLaws.{tables_moved}
-use Rattle.zd_tables.specs.Tables.{entries_in, tables_in}
+use Rattle.std.proofs.lemmas.List.FromFn.{length-map-range_with_len}
+use Rattle.zd_tables.specs.Tables.{entries_in, entry_in_blocks, tables_in}
 use Rattle.zd_repair.specs.Committed.{InBothSets}
 use Rattle.zd_repair.specs.Finished.{AreLeftBlocks, IsFinishing}
 use Rattle.zd_repair.specs.Heads.{HoldsHeads}
@@ -154,6 +155,7 @@ module _ (c : Choice) (bytes pointers : List ℕ) (old : Image) (found : IsFound
       has_wrong some = record {
         dropped = dropped;
         left = tables_in old.geometry c.head.layout left;
+        count = length-map-range_with_len (entry_in_blocks left) 0 c.head.layout.chunks;
         tables = are_left;
         counts = subst (λ (t : Tables). CountsDropped old.geometry c.head.layout t (tables_in old.geometry c.head.layout left) dropped) found_tables are.counts;
         some = some;

@@ -58,6 +58,7 @@ module _ (old mid : Image) (image : IsImage old) (shape : IsShape old.geometry) 
     wrong_before wrong = record {
       dropped = wrong.dropped;
       left = wrong.left;
+      count = wrong.count;
       tables = left_before wrong.left wrong.tables;
       counts = counts_before wrong.left wrong.dropped wrong.counts;
       some = wrong.some;

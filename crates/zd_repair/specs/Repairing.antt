@@ -1,5 +1,5 @@
 -- A disk that is repaired: what is left of it at the end, and what a stop leaves.
-use Rattle.std.specs.Prelude.{◌≡◌, ◌⊎◌, ℕ, ◌+◌, ◌-◌, ◌*◌, ◌<◌, ◌≤◌, ◌^◌, Some, None, Result, Ok, Err}
+use Rattle.std.specs.Prelude.{◌≡◌, ◌⊎◌, ℕ, ◌+◌, ◌-◌, ◌*◌, ◌<◌, ◌≤◌, ◌^◌, length, Some, None, Result, Ok, Err}
 use Rattle.zd_base.specs.Geometry.{Shape}
 use Rattle.zd_base.specs.Layout.{set_zones, used_blocks}
 use Rattle.zd_disk.specs.Told.{Both, WhereTold}
@@ -25,10 +25,11 @@ use Rattle.zd_repair.specs.declared.tables.Repaired.{Repaired}
 abbrev pub AreLeft : Set → Image → Tables → Type 0
 AreLeft c image left = IsLeftOf image.geometry c.head.layout image.held (tables_of image c) left
 
--- something is wrong in them
+-- something is wrong in them: what is left has an entry for each chunk and no other
 pub record HasWrong (c : Set) (image : Image) : Type 0 where
   pub dropped : Repaired
   pub left : Tables
+  pub count : length left.entries ≡ c.head.layout.chunks
   pub tables : AreLeft c image left
   pub counts : CountsDropped image.geometry c.head.layout (tables_of image c) left dropped
   pub some : IsNothing dropped → ⊥

@@ -2,7 +2,7 @@ use Rattle.std.proofs.Common.{sym, ◌∙◌, subst}
 use Rattle.zd_admin.specs.Admin.{EndsAsked}
 use Rattle.zd_admin.specs.declared.outcome.Outcome.{Outcome}
 use Rattle.zd_admin.specs.declared.words.Asked.TheVariants.{Relabel}
-use Rattle.zd_admin.proofs.EndLaws.{relabel_done, relabel_ends, relabel_open}
+use Rattle.zd_admin.proofs.HeadEnds.{relabel_done, relabel_ends, relabel_open}
 use Rattle.zd_admin.proofs.operations.run_relabel.Goals as goal
 
 pub returns-in-Ok-clause-ended : goal.returns-in-Ok-clause-ended

@@ -2,7 +2,7 @@ use Rattle.std.proofs.Common.{sym, ◌∙◌, subst}
 use Rattle.zd_admin.specs.Admin.{EndsAsked, no_label}
 use Rattle.zd_admin.specs.declared.outcome.Outcome.{Outcome}
 use Rattle.zd_admin.specs.declared.words.Asked.TheVariants.{Upgrade}
-use Rattle.zd_admin.proofs.EndLaws.{upgrade_done, upgrade_ends, upgrade_open}
+use Rattle.zd_admin.proofs.HeadEnds.{upgrade_done, upgrade_ends, upgrade_open}
 use Rattle.zd_admin.proofs.operations.run_upgrade.Goals as goal
 
 pub returns-in-Ok-clause-ended : goal.returns-in-Ok-clause-ended

@@ -1,6 +1,5 @@
-use Rattle.std.proofs.Common.{ap, ◌∙◌, arith}
+use Rattle.std.proofs.Common.{arith}
 use Rattle.std.specs.Option.{is_some}
-use Rattle.zd_model.specs.declared.metadata.MapEntry.{MapEntry}
 use Rattle.zd_tables.specs.Tables.{entry_in_blocks}
 use Rattle.zd_admin.proofs.ShownLaws.{counted_low, counted_more, one_low}
 use Rattle.zd_admin.proofs.volume.count_chunks.Goals as goal

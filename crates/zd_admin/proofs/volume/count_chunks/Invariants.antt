@@ -1,5 +1,5 @@
 -- those of the chunks so far
-use Rattle.std.proofs.Common.{◌≡◌, ◌≤◌, map}
+use Rattle.std.proofs.Common.{◌≡◌, map}
 use Rattle.std.specs.List.{range_with_len}
 use Rattle.zd_tables.specs.Tables.{entry_in_blocks}
 use Rattle.zd_admin.specs.Shown.{buffered_chunks, mapped_chunks}

@@ -1,4 +1,3 @@
-use Rattle.std.proofs.Common.{◌∙◌}
 use Rattle.zd_admin.proofs.ShownLaws.{shown_of}
 use Rattle.zd_admin.proofs.volume.volume_status.Goals as goal
 
