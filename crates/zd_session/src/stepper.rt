@@ -1,6 +1,6 @@
 //! A session goes on step by step, for actors that may be threads.
 
-ghost use Rattle.std.specs.Prelude.{◌≡◌, ◌≢◌, true};
+ghost use Rattle.std.specs.Prelude.{◌≡◌, ◌≢◌, ◌<◌, length, true};
 ghost use Rattle.zd_base.specs.declared.steps.Stepped.{Stepped};
 ghost use Rattle.zd_ports.specs.Actors.{IsLast};
 ghost use Rattle.zd_progress.specs.Alone.{FliesAlone};
@@ -38,6 +38,7 @@ impl<D: ZonedDisk + Send> Stepper for Session<D> {
     ghost has_ended = { ended_of };
 
     fn step(&mut self, actor: u32, prefer: Prefer) -> Stepped
+        requires actor { actor < length self.old.flights }
         ensures constant { constant_of D.view self.new ≡ constant_of D.view self.old }
         ensures ended { IsLast result → ended_of self.new ≡ true }
         ensures step { MakesStep D.view self.old self.new actor prefer result }
