@@ -169,7 +169,9 @@ module _ {D : Type 0} (look : D → View) (s t : SessionView D) (actor : ℕ) (p
   idle_by : (step : Option Step) (stopped : Option Why) (over : Bool) → t.volume.plain.stopped ≡ stopped
       → is_over (run_seen s) ≡ over → next_seen s actor prefer ≡ step → Makes look s t actor step → Answers step stopped
       → WaitsForOthers s → FliesAlone s.flights actor → result ≡ Idle → ⊥
-  idle_by step (Some why) over stop is next makes answer waits alone idle = subst IsIdle (sym idle ∙ answer) tt
+  idle_by None (Some why) over stop is next makes answer waits alone idle = subst IsIdle (sym idle ∙ answer) tt
+  idle_by (Some step) (Some why) over stop is next makes answer waits alone idle =
+      subst IsIdle (sym idle ∙ answer) tt
   idle_by (Some step) None over stop is next makes answer waits alone idle = subst IsIdle (sym idle ∙ answer) tt
   idle_by None None true stop is next makes answer waits alone idle =
       subst IsIdle (sym idle ∙ rests true is answer) tt
