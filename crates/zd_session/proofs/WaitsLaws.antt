@@ -63,7 +63,7 @@ module _ {D : Type 0} (look : D → View) (s : SessionView D) (stands : StandsSe
   -- the numbers of the run as this actor sees them
   abbrev numbers : LoneRun
   numbers = record (lone_run s n) {
-    is_ready = is_over (run_seen s) || is_some (piece_step (run_seen s) here (flight_of (run_seen s) actor))
+    is_ready = is_over (run_seen s) || is_some (piece_step (run_seen s) here (flight_of (run_seen s) actor));
   }
 
   sees : IsSeenBy (run_seen s) here actor numbers

@@ -74,8 +74,8 @@ pub record IsSameSession {D : Type 0} (look : D → View) (from to : SessionView
   pub opening : IsToldAlike (look from.volume.opening) (look to.volume.opening)
 
 -- THE CONSTANT CAN BE READ BACK: sessions with the same one are the same
-abbrev pub OneConstantIsOneSession : {D : Type 0} → (D → View) → Type 0
-OneConstantIsOneSession {D} look = (from to : SessionView D) → constant_of look to ≡ constant_of look from →
+abbrev pub OneConstantIsOneSession : {D : Type 0} → (D → View) → (SessionView D → List (List ℕ)) → Type 0
+OneConstantIsOneSession {D} look constant = (from to : SessionView D) → constant to ≡ constant from →
     IsSameSession look from to
 
 -- AN ACTOR WAITS FOR OTHERS ALONE: where no other one has a piece in flight it has a step, whatever it prefers, unless

@@ -1,7 +1,7 @@
 //! A session goes on step by step, for actors that may be threads.
 
 ghost use Rattle.std.specs.Prelude.{◌≡◌, ◌≢◌, ◌<◌, length, true};
-ghost use Rattle.zd_base.specs.declared.steps.Stepped.{Stepped};
+ghost use Rattle.zd_base.specs.declared.steps.Stepped.TheVariants.{Idle};
 ghost use Rattle.zd_ports.specs.Actors.{IsLast};
 ghost use Rattle.zd_progress.specs.Alone.{FliesAlone};
 ghost use Rattle.zd_session.specs.Constants.{OneConstantIsOneSession, WaitsForOthers, constant_of};
@@ -14,10 +14,10 @@ use zd_base::{Prefer, Stepped};
 use zd_disk::ZonedDisk;
 use zd_ports::Stepper;
 
-/// A law, with nothing to run: sessions with the same constant have the same requests and as many actors, over the same
-/// volume as opening ended.
-pub fn one_constant<D: ZonedDisk>()
-    ensures { OneConstantIsOneSession D.view }
+/// A law, with nothing to run: sessions with the same constant have the same requests and as many actors, over a volume
+/// that was the same when opening ended, and whose disk told the same then.
+pub fn one_constant<D: ZonedDisk + Send>()
+    ensures { OneConstantIsOneSession D.view ⟦<Session<D> as Stepper>⟧.constant }
 {}
 
 impl<D: ZonedDisk> Session<D> {
@@ -42,7 +42,7 @@ impl<D: ZonedDisk + Send> Stepper for Session<D> {
         ensures constant { constant_of D.view self.new ≡ constant_of D.view self.old }
         ensures ended { IsLast result → ended_of self.new ≡ true }
         ensures step { MakesStep D.view self.old self.new actor prefer result }
-        ensures idle { FliesAlone self.old.flights actor → result ≢ Stepped.Idle }
+        ensures idle { FliesAlone self.old.flights actor → result ≢ Idle }
     {
         self.waits();
         Session::step(self, actor as usize, prefer)
