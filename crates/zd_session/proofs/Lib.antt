@@ -47,3 +47,5 @@ mod LoneLaws
 mod StepLaws
 mod LoneStands
 mod PaceMade
+mod ConstantLaws
+mod WaitsLaws

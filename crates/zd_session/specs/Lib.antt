@@ -7,3 +7,4 @@ pub mod SessionEnds
 pub mod Moving
 pub mod LoneSessions
 pub mod LoneStates
+pub mod Constants

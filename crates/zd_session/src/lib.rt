@@ -10,6 +10,8 @@ mod making;
 mod progress;
 mod serving;
 mod session;
+mod stepper;
 
 pub use actor::Actor;
 pub use session::Session;
+pub use stepper::one_constant;
