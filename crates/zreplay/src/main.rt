@@ -4,11 +4,14 @@
 //! standard input. A is the number of actors, 1 to 64, and 4 where it isn't said.
 #![tactic(auto)]
 
+use std::alloc::Global;
 use std::fs::File;
 use std::process::ExitCode;
+use std::sync::Wait;
+use std::thread::Threads;
 use std::{env, fs, io};
 use zd_disk::FileDisk;
-use zd_ports::{FreeGate, NoSource, Source, StdSink, StdSource};
+use zd_ports::{FreeGate, NoSource, Sink, Source, StdSink, StdSource};
 use zd_replay::{paths, replay};
 
 /// The disk in the image file of a command; one that fails at every call where there is none.
@@ -19,23 +22,16 @@ fn disk_at(rt: &HostRuntime, image: Option<&str>) -> FileDisk<File> {
     }
 }
 
-/// Runs the script over the disk, and answers the exit status.
-fn run<S: Source>(
-    rt: &HostRuntime,
+/// Runs the script over the disk by threads, and answers the exit status.
+fn run<S: Source, K: Sink, R: Threads + Wait + Sync>(
+    rt: &R,
+    alloc: Global,
     words: &[String],
     disk: FileDisk<File>,
     mut script: S,
+    mut out: K,
 ) -> ExitCode {
-    let mut out = StdSink::new(io::writer(rt));
-    let (status, _) = replay(
-        rt,
-        rt.alloc(),
-        words,
-        disk,
-        &mut script,
-        &mut out,
-        &FreeGate,
-    );
+    let (status, _) = replay(rt, alloc, words, disk, &mut script, &mut out, &FreeGate);
     ExitCode::from(status.0)
 }
 
@@ -64,13 +60,14 @@ fn main(rt: HostRuntime) -> ExitCode {
     let Ok(paths) = paths(&words) else {
         return no_memory(&rt);
     };
-    let disk = disk_at(&rt, paths.image);
+    let (alloc, disk) = (rt.alloc(), disk_at(&rt, paths.image));
+    let out = StdSink::new(io::writer(&rt));
     match paths.script {
-        Some("-") => run(&rt, &words, disk, StdSource::new(rt.reader())),
+        Some("-") => run(&rt, alloc, &words, disk, StdSource::new(rt.reader()), out),
         Some(path) => match fs::open(&rt, path) {
-            Ok(file) => run(&rt, &words, disk, StdSource::new(file)),
-            Err(_) => run(&rt, &words, disk, NoSource::new()),
+            Ok(file) => run(&rt, alloc, &words, disk, StdSource::new(file), out),
+            Err(_) => run(&rt, alloc, &words, disk, NoSource::new(), out),
         },
-        None => run(&rt, &words, disk, NoSource::new()),
+        None => run(&rt, alloc, &words, disk, NoSource::new(), out),
     }
 }
