@@ -1,0 +1,4 @@
+//! The words of commands.
+#![tactic(auto)]
+
+//mod reading;
