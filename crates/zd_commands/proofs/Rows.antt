@@ -87,16 +87,16 @@ free_use (value_use name value) us h = rw h refl
 free_use (place_use name place word) us h = rw h refl
 
 once : (b : Bool) (kinds : Kinds) → or_else (cond (b && true) (ArgumentConflict ∷ []) []) [] ≡ [] → b ≡ false
-once true kinds h = absurd (nonempty h)
-  where
-    nonempty : ◌≡◌ {A = Kinds} (ArgumentConflict ∷ []) [] → ⊥
-    nonempty e = cc
+once true kinds h = absurd (let e : ◌≡◌ {A = Kinds} (ArgumentConflict ∷ []) [] = h in cc)
 once false kinds h = refl
 
 pub once_use : (u : Use) (us : List Use) → use_fault false (use_rule u) (use_given u) (map use_row us) ≡ [] → IsNew u us
 once_use (flag_use name) us h = once (has_row name (map use_row us)) [] h
 once_use (value_use name value) us h = once (has_row name (map use_row us)) [] h
 once_use (place_use name place word) us h = once (has_row name (map use_row us)) [] h
+
+pub not_free : (k : ErrorKind) (a : Kinds) → ◌≡◌ {A = Kinds} (k ∷ a) [] → ⊥
+not_free k a e = cc
 
 -- two lists of kinds are empty together
 pub both_free : (a b : Kinds) → a ≡ [] → b ≡ [] → or_else a b ≡ []
@@ -108,10 +108,7 @@ first_free (k ∷ a) b h = h
 
 pub second_free : (a b : Kinds) → or_else a b ≡ [] → b ≡ []
 second_free [] b h = h
-second_free (k ∷ a) b h = absurd (not_none k a h)
-  where
-    not_none : (k : ErrorKind) (a : Kinds) → ◌≡◌ {A = Kinds} (k ∷ a) [] → ⊥
-    not_none k a e = cc
+second_free (k ∷ a) b h = absurd (not_free k a h)
 
 -- ---- with an argument whose values are being read
 
