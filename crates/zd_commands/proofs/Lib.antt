@@ -1,2 +1,5 @@
+mod Names
+mod Passing
 mod Rows
+mod Spelled
 mod Turns
