@@ -1,4 +1,6 @@
+mod Lookups
 mod Names
+mod Once
 mod Passing
 mod Rows
 mod Spelled
