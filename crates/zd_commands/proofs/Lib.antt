@@ -6,3 +6,4 @@ mod Programs
 mod Rows
 mod Spelled
 mod Turns
+mod Chains

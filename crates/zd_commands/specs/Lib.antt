@@ -1,2 +1,4 @@
+pub mod Admins
+pub mod Founds
 pub mod Spelling
 pub mod Table

@@ -1,4 +1,7 @@
 //! The words of commands.
 #![tactic(auto)]
 
-//mod reading;
+mod admins;
+mod reading;
+
+pub use admins::AdminTask;

@@ -1,0 +1,31 @@
+-- What was found in words, and what they say.
+use Rattle.std.specs.Prelude.{◌≡◌, ◌≤◌, ℕ, List, codes, length, slice_get}
+use Rattle.std.specs.Option.{option_copied}
+use Rattle.zd_commands.specs.Spelling.{IsReading, Item, flags_of, is_among, value_of}
+use Rattle.zd_commands.specs.Admins.{admin_flags, admin_options}
+use Rattle.zd_commands.specs.declared.admins.AdminFound.{AdminFound}
+
+-- the words are a reading with at most so many plain words, and each such reading is as P says
+pub record IsRead (flags options words : List (List ℕ)) (most : ℕ) (P : List Item → List (List ℕ) → Type 0) : Type 0 where
+  pub items : List Item
+  pub plain : List (List ℕ)
+  pub reading : IsReading flags options words items plain
+  pub few : length plain ≤ most
+  pub each : (items : List Item) (plain : List (List ℕ)) → IsReading flags options words items plain → length plain ≤ most → P items plain
+
+-- the words are no such reading
+abbrev pub IsUnread : List (List ℕ) → List (List ℕ) → List (List ℕ) → ℕ → Type 0
+IsUnread flags options words most = (items : List Item) (plain : List (List ℕ)) → IsReading flags options words items plain → length plain ≤ most → ⊥
+
+-- what was found is what the items are
+pub record FindsAdmin (found : AdminFound) (items : List Item) (plain : List (List ℕ)) : Type 0 where
+  pub format : found.format ≡ is_among (flags_of items) (codes "format")
+  pub check : found.check ≡ is_among (flags_of items) (codes "check")
+  pub repair : found.repair ≡ is_among (flags_of items) (codes "repair")
+  pub relabel : found.relabel ≡ is_among (flags_of items) (codes "relabel")
+  pub status : found.status ≡ is_among (flags_of items) (codes "status")
+  pub upgrade : found.upgrade ≡ is_among (flags_of items) (codes "upgrade")
+  pub label : option_copied found.label ≡ value_of (codes "label") items
+  pub seq : option_copied found.seq ≡ value_of (codes "seq") items
+  pub uuid : option_copied found.uuid ≡ value_of (codes "uuid") items
+  pub image : option_copied found.image ≡ slice_get plain 0
