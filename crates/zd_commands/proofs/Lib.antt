@@ -7,3 +7,5 @@ mod Rows
 mod Spelled
 mod Turns
 mod Chains
+mod AdminTable
+mod Answering

@@ -10,6 +10,7 @@ use Rattle.std.proofs.lemmas.Bool.Decides.{nat_tests}
 use Rattle.clap.specs.Lexer.{usize_max}
 use Rattle.clap.specs.Walk.{Row, Rule, Text, at_row, first_of, has_row, is_empty, more_values, one_of, reading_by, row_text, with_default}
 use Rattle.clap.specs.declared.parser.matches.ValueSource.TheVariants.{DefaultValue}
+use Rattle.zd_commands.specs.Founds.{at_place}
 use Rattle.zd_commands.specs.Spelling.{Item, IsItem, apart, flag, flags_of, is_among, item_flags, item_plain, item_values, joined, plain, value_of}
 use Rattle.zd_commands.proofs.Rows.{Use, absent, flag_use, use_id, use_row, value_use, place_use}
 use Rattle.zd_commands.proofs.Passing.{AllItems, place_uses, uses}
@@ -120,12 +121,6 @@ apart_names names m n h k = go (bytes_eq m n) refl
     go : (b : Bool) → bytes_eq m n ≡ b → b ≡ false
     go true e = absurd (false≢true (sym k ∙ ap (is_among names) (sym (text_is m n e)) ∙ h))
     go false e = refl
-
--- the word at the place of this name
-abbrev pub at_place : Text → List Text → List Text → Option Text
-at_place id [] words = None
-at_place id (l ∷ left) [] = None
-at_place id (l ∷ left) (w ∷ words) = cond (bytes_eq l id) (Some w) (at_place id left words)
 
 abbrev pub first_in : Text → List Use → Option Text
 first_in id us = option_and_then (λ r. slice_get r.values 0) (row_with id (map use_row us))

@@ -1,5 +1,5 @@
 -- A program's words, by clap's answer.
-use Rattle.std.proofs.Common.{◌≡◌, ◌≢◌, ℕ, zero, suc, ◌+◌, ◌<◌, ◌≤◌, min, Bool, cond, true, false, ◌||◌, ◌&&◌, not, refl, sym, ap, ◌∙◌, subst, arith, List, [], ◌∷◌, ◌++◌, map, length, Option, Some, None, codes}
+use Rattle.std.proofs.Common.{◌≡◌, ◌≢◌, ℕ, zero, suc, ◌+◌, ◌<◌, ◌≤◌, min, Bool, cond, true, false, ◌||◌, ◌&&◌, not, refl, sym, ap, ◌∙◌, subst, arith, List, [], ◌∷◌, ◌++◌, map, length, Option, Some, None, codes, Result, Ok, Err, IfOk, IfSome, IfNone}
 use Rattle.std.specs.Prelude.{All, flat_map, fold, find, option_and_then, slice_get}
 use Rattle.std.specs.List.{AllByRecursion, IsDistinct, list_all, list_any}
 use Rattle.std.specs.Option.{option_map_or, is_some}
@@ -7,17 +7,24 @@ use Rattle.std.specs.Str.{bytes_eq}
 use Rattle.std.proofs.lemmas.Bool.{false≢true}
 use Rattle.clap.specs.Walk.{Held, Row, Rule, Text, arg_by_id, arg_by_long, arg_by_short, first_of, has_long, has_row, is_empty, nothing_held, one_of, row_text, settled, walk, walk_from, walked, with_default}
 use Rattle.clap.specs.Simple.{App, Shape, built, filled, matches_of}
+use Rattle.std.specs.Prelude.{string_bytes, String}
+use Rattle.std.proofs.lemmas.Str.{IsUtf8-string_bytes}
+use Rattle.clap.specs.Walk.{rows_of}
+use Rattle.clap.specs.Matches.{found_of}
+use Rattle.clap.specs.Simple.{HasMatchesOf, is_simple}
+use Rattle.clap.specs.declared.parser.matches.ArgMatches.{ArgMatches}
 use Rattle.clap.specs.Kinds.{Kinds, or_else}
-use Rattle.clap.specs.Faults.{check_fault, default_fault, defaults_fault, fault_of, given_default_fault, level_fault, settle_fault, walk_fault}
+use Rattle.clap.specs.Faults.{check_fault, default_fault, defaults_fault, is_free_app, is_simple_and_free, fault_of, given_default_fault, level_fault, settle_fault, walk_fault}
 use Rattle.clap.proofs.FaultLemmas.{leaf_fault}
 use Rattle.zd_commands.specs.Spelling.{IsReading, Item, IsItem, flags_of, is_among, item_names, item_plain, value_of}
-use Rattle.zd_commands.specs.Table.{app_with, flag_rule, option_rule}
+use Rattle.zd_commands.specs.Founds.{FindsRows, IsRead, IsUnread, at_place}
+use Rattle.zd_commands.specs.Table.{IsRefused, IsTaken, app_with, flag_rule, option_rule}
 use Rattle.zd_commands.proofs.Names.{is_name}
 use Rattle.zd_commands.proofs.Rows.{Use, both_free, first_free, second_free, use_row}
 use Rattle.zd_commands.proofs.Turns.{PlacesFrom, calm, shape}
 use Rattle.zd_commands.proofs.Passing.{AllItems, AllNew, HasRoom, IsTable, Leaves, Passes, end_of, leaves, uses}
 use Rattle.zd_commands.proofs.Spelled.{AllUtf8, AreItems, spelled}
-use Rattle.zd_commands.proofs.Lookups.{at_place, default_for, filled_in, first_in, flag_found, flag_text, kept, neither_left, no_row, option_found, place_found, row_with, text_is}
+use Rattle.zd_commands.proofs.Lookups.{default_for, filled_in, first_in, flag_found, flag_text, kept, neither_left, no_row, option_found, place_found, row_with, text_is}
 use Rattle.zd_commands.proofs.Once.{AreApart, all_new, distinct}
 
 -- ---- lists
@@ -207,3 +214,53 @@ module _ (flags options places : List Text) (p : IsProgram flags options places)
         (place_found flags options id items r.rest 1 places (by_name (λ n. is_among flags n ≡ false) places id p.flags_apart known)
         (by_name (λ n. is_among options n ≡ false) places id p.options_apart known) has
         ∙ ap (at_place id places) (sym r.placed))
+
+  both_true : (a b : Bool) → (a && b) ≡ true → a ≡ true
+  both_true true b h = refl
+  both_true false b h = h
+
+  -- what clap finds is what the items are
+  pub reads : (words : List Text) (m : ArgMatches) → AllUtf8 words → is_simple_and_free (app_with flags options places) ≡ true → IsTaken flags options places words m
+      → IsRead flags options words (length places) (FindsRows flags options places (rows_of (found_of m)))
+  unfolding IsTaken
+  reads words m utf free taken =
+      let h = taken free in
+      let simple : is_simple (app_with flags options places) ≡ true = both_true (is_simple (app_with flags options places)) (is_free_app (built (app_with flags options places))) free in
+      let some = reading_of words utf h.0 in
+      record {
+        items = some.0;
+        plain = some.1;
+        reading = some.2;
+        few = some.3;
+        each = λ items plain r few. record {
+          flag = λ id known. ap (one_of id) (h.1 simple).0 ∙ flag_read words items plain r few id known;
+          option = λ id known. ap (first_of id) (h.1 simple).0 ∙ option_read words items plain r few id known;
+          place = λ id known. ap (first_of id) (h.1 simple).0 ∙ place_read words items plain r few id known;
+        };
+      }
+
+  pub unread : (words : List Text) → is_simple_and_free (app_with flags options places) ≡ true → IsRefused flags options places words → IsUnread flags options words (length places)
+  unfolding IsRefused
+  unread words free refused items plain r few = refused free (no_fault words items plain r few)
+
+pub utf8_words : {Z : Type 0} (words : List (String Z)) → AllUtf8 (map string_bytes words)
+utf8_words [] = tt
+utf8_words (w ∷ words) = (IsUtf8-string_bytes w, utf8_words words)
+
+module _ (flags options places : List Text) (p : IsProgram flags options places) (free : is_simple_and_free (app_with flags options places) ≡ true) (words : List Text) where
+  pub reads_if : AllUtf8 words → {E : Type 0} (r : Result (Option ArgMatches) E) (fs os ps : List Text) → fs ≡ flags → os ≡ options → ps ≡ places
+      → IfOk r (λ found. IfSome found (IsTaken fs os ps words))
+      → IfOk r (λ found. IfSome found (λ m. IsRead flags options words (length places) (FindsRows flags options places (rows_of (found_of m)))))
+  reads_if utf (Err e) fs os ps f o q h = tt
+  reads_if utf (Ok None) fs os ps f o q h = tt
+  reads_if utf (Ok (Some m)) fs os ps f o q h =
+      reads flags options places p words m utf free (subst (λ (xs : List Text). IsTaken flags options xs words m) q
+      (subst (λ (xs : List Text). IsTaken flags xs ps words m) o (subst (λ (xs : List Text). IsTaken xs os ps words m) f h)))
+
+  pub unread_if : {E : Type 0} (r : Result (Option ArgMatches) E) (fs os ps : List Text) → fs ≡ flags → os ≡ options → ps ≡ places
+      → IfOk r (λ found. IfNone found (IsRefused fs os ps words)) → IfOk r (λ found. IfNone found (IsUnread flags options words (length places)))
+  unread_if (Err e) fs os ps f o q h = tt
+  unread_if (Ok (Some m)) fs os ps f o q h = tt
+  unread_if (Ok None) fs os ps f o q h =
+      unread flags options places p words free (subst (λ (xs : List Text). IsRefused flags options xs words) q
+      (subst (λ (xs : List Text). IsRefused flags xs ps words) o (subst (λ (xs : List Text). IsRefused xs os ps words) f h)))

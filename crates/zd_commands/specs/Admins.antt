@@ -64,5 +64,5 @@ pub record AsksAdmin (words : List (List ℕ)) (task : AdminTask) (image : List 
   pub plain : List (List ℕ)
   pub reading : IsReading admin_flags admin_options words items plain
   pub flag : IsOnlyFlag (task_flag task) items
-  pub image : plain ≡ image ∷ []
+  pub place : plain ≡ image ∷ []
   pub takes : TakesOptions task (value_of (codes "label") items) (value_of (codes "seq") items) (value_of (codes "uuid") items)

@@ -1,9 +1,23 @@
 -- What was found in words, and what they say.
-use Rattle.std.specs.Prelude.{◌≡◌, ◌≤◌, ℕ, List, codes, length, slice_get}
+use Rattle.std.specs.Prelude.{◌≡◌, ◌≤◌, ℕ, true, if◌then◌else◌, Option, Some, None, List, [], ◌∷◌, codes, length, slice_get}
 use Rattle.std.specs.Option.{option_copied}
+use Rattle.std.specs.Str.{bytes_eq}
+use Rattle.clap.specs.Walk.{Row, first_of, one_of}
 use Rattle.zd_commands.specs.Spelling.{IsReading, Item, flags_of, is_among, value_of}
-use Rattle.zd_commands.specs.Admins.{admin_flags, admin_options}
 use Rattle.zd_commands.specs.declared.admins.AdminFound.{AdminFound}
+
+-- the word at the place of this name
+abbrev pub at_place : List ℕ → List (List ℕ) → List (List ℕ) → Option (List ℕ)
+at_place name [] words = None
+at_place name (place ∷ places) [] = None
+at_place name (place ∷ places) (word ∷ words) = if bytes_eq place name then Some word else at_place name places words
+
+-- the rows that clap found are what the items are
+pub record FindsRows (flags options places : List (List ℕ)) (rows : List Row) (items : List Item) (plain : List (List ℕ)) : Type 0 where
+  pub flag : (name : List ℕ) → is_among flags name ≡ true
+      → one_of name rows ≡ Some (if is_among (flags_of items) name then codes "true" else codes "false")
+  pub option : (name : List ℕ) → is_among options name ≡ true → first_of name rows ≡ value_of name items
+  pub place : (name : List ℕ) → is_among places name ≡ true → first_of name rows ≡ at_place name places plain
 
 -- the words are a reading with at most so many plain words, and each such reading is as P says
 pub record IsRead (flags options words : List (List ℕ)) (most : ℕ) (P : List Item → List (List ℕ) → Type 0) : Type 0 where

@@ -1,6 +1,16 @@
 //! The words of dmzadm.
 
+ghost use Rattle.std.specs.Prelude.{◌≡◌, List, map, string_bytes, IfNone, IfOk, IfSome};
+ghost use Rattle.clap.specs.Words.{found_of, rows_of};
+ghost use Rattle.zd_commands.specs.Admins.{admin_flags, admin_options, admin_places};
+ghost use Rattle.zd_commands.specs.Founds.{FindsAdmin, FindsRows, IsRead, IsUnread};
+ghost use Rattle.zd_commands.specs.Spelling.{Item};
+
+use crate::reading::{matches, stands, value};
+use clap::ArgMatches;
+use std::alloc::Global;
 use uuid::Uuid;
+use zd_base::Memory;
 
 /// The bytes of a label.
 pub const LABEL_BYTES: usize = 32;
@@ -49,4 +59,40 @@ struct AdminFound<'a> {
     seq: Option<&'a str>,
     uuid: Option<&'a str>,
     image: Option<&'a str>,
+}
+
+static FLAGS: [&str; 6] = ["format", "check", "repair", "relabel", "status", "upgrade"];
+static OPTIONS: [&str; 3] = ["label", "seq", "uuid"];
+static PLACES: [&str; 1] = ["image"];
+
+/// What clap finds in words of dmzadm; none where it refuses them.
+fn admin_matches<'a>(
+    alloc: Global,
+    words: &'a [String],
+) -> Result<Option<ArgMatches<'a>>, Memory>
+    ensures some { IfOk result (λ found. IfSome found (λ m. IsRead admin_flags admin_options (map string_bytes words.now) 1
+        (FindsRows admin_flags admin_options admin_places (rows_of (found_of m))))) }
+    ensures none { IfOk result (λ found. IfNone found (IsUnread admin_flags admin_options (map string_bytes words.now) 1)) }
+{
+    matches(alloc, &FLAGS, &OPTIONS, &PLACES, words)
+}
+
+/// What clap found, by its names.
+fn admin_found<'a>(found: &ArgMatches<'a>) -> AdminFound<'a>
+    ensures { (items : List Item) (plain : _)
+        → FindsRows admin_flags admin_options admin_places (rows_of (found_of found.now)) items plain
+        → FindsAdmin result items plain }
+{
+    AdminFound {
+        format: stands(found, "format"),
+        check: stands(found, "check"),
+        repair: stands(found, "repair"),
+        relabel: stands(found, "relabel"),
+        status: stands(found, "status"),
+        upgrade: stands(found, "upgrade"),
+        label: value(found, "label"),
+        seq: value(found, "seq"),
+        uuid: value(found, "uuid"),
+        image: value(found, "image"),
+    }
 }

@@ -1,8 +1,9 @@
 //! Reading words by the flags, the options and the plain words that a program has.
 
-ghost use Rattle.std.specs.Prelude.{◌≡◌, ◌≢◌, List, [], map, string_bytes, IfNone, IfOk, IfSome, true};
-ghost use Rattle.clap.specs.Words.{App, HasMatchesOf, app_of, fault_of, is_simple_and_free, new_rule};
-ghost use Rattle.zd_commands.specs.Table.{app_with, flag_rule, option_rule, texts, with_rules};
+ghost use Rattle.std.specs.Prelude.{◌≡◌, map, string_bytes, Bool, Some, codes, if◌then◌else◌, IfNone, IfOk, IfSome};
+ghost use Rattle.std.specs.Option.{option_copied};
+ghost use Rattle.clap.specs.Words.{app_of, first_of, found_of, one_of, rows_of, new_rule};
+ghost use Rattle.zd_commands.specs.Table.{IsRefused, IsTaken, app_with, flag_rule, option_rule, texts, with_rules};
 
 use clap::error::ErrorKind;
 use clap::{Arg, ArgAction, ArgMatches, Command};
@@ -86,13 +87,10 @@ pub(crate) fn matches<'a>(
     places: &'static [&'static str],
     words: &'a [String],
 ) -> Result<Option<ArgMatches<'a>>, Memory>
-    ensures some { is_simple_and_free (app_with (texts flags.now) (texts options.now) (texts places.now)) ≡ true
-        → IfOk result (λ found. IfSome found (λ m.
-        (fault_of (app_with (texts flags.now) (texts options.now) (texts places.now)) (map string_bytes words.now) ≡ [])
-        × HasMatchesOf (app_with (texts flags.now) (texts options.now) (texts places.now)) (map string_bytes words.now) m)) }
-    ensures none { is_simple_and_free (app_with (texts flags.now) (texts options.now) (texts places.now)) ≡ true
-        → IfOk result (λ found. IfNone found
-        (fault_of (app_with (texts flags.now) (texts options.now) (texts places.now)) (map string_bytes words.now) ≢ [])) }
+    ensures some { IfOk result (λ found. IfSome found
+        (IsTaken (texts flags.now) (texts options.now) (texts places.now) (map string_bytes words.now))) }
+    ensures none { IfOk result (λ found. IfNone found
+        (IsRefused (texts flags.now) (texts options.now) (texts places.now) (map string_bytes words.now))) }
 {
     let made = match command(alloc, flags, options, places) {
         Ok(made) => made,
@@ -107,4 +105,19 @@ pub(crate) fn matches<'a>(
             Ok(None)
         }
     }
+}
+
+/// Whether a flag stands.
+pub(crate) fn stands(found: &ArgMatches<'_>, name: &str) -> bool
+    ensures { (b : Bool) → one_of name.now (rows_of (found_of found.now)) ≡ Some (if b then codes "true" else codes "false")
+        → result ≡ b }
+{
+    found.get_flag(name)
+}
+
+/// The value of an option, or the word at a place.
+pub(crate) fn value<'a>(found: &ArgMatches<'a>, name: &str) -> Option<&'a str>
+    ensures { option_copied result ≡ first_of name.now (rows_of (found_of found.now)) }
+{
+    found.get_str(name)
 }
