@@ -9,3 +9,4 @@ mod Turns
 mod Chains
 mod AdminTable
 mod Answering
+mod WordLaws

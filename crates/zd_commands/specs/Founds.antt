@@ -1,10 +1,14 @@
 -- What was found in words, and what they say.
-use Rattle.std.specs.Prelude.{◌≡◌, ◌≤◌, ℕ, true, if◌then◌else◌, Option, Some, None, List, [], ◌∷◌, codes, length, slice_get}
+use Rattle.std.specs.Prelude.{◌≡◌, ◌≤◌, ◌&&◌, ◌||◌, not, Bool, ℕ, true, if◌then◌else◌, Option, Some, None, List, [], ◌∷◌, codes, length, slice_get}
 use Rattle.std.specs.Option.{option_copied}
 use Rattle.std.specs.Str.{bytes_eq}
 use Rattle.clap.specs.Walk.{Row, first_of, one_of}
 use Rattle.zd_commands.specs.Spelling.{IsReading, Item, flags_of, is_among, value_of}
+use Rattle.zd_commands.specs.Admins.{TakesOptions, task_flag}
+use Rattle.zd_commands.specs.declared.admins.AdminFlag.{AdminFlag}
+use Rattle.zd_commands.specs.declared.admins.AdminFlag.TheVariants.{Format, Check, Repair, Relabel, Show, Upgrade}
 use Rattle.zd_commands.specs.declared.admins.AdminFound.{AdminFound}
+use Rattle.zd_commands.specs.declared.admins.AdminTask.{AdminTask}
 
 -- the word at the place of this name
 abbrev pub at_place : List ℕ → List (List ℕ) → List (List ℕ) → Option (List ℕ)
@@ -43,3 +47,31 @@ pub record FindsAdmin (found : AdminFound) (items : List Item) (plain : List (Li
   pub seq : option_copied found.seq ≡ value_of (codes "seq") items
   pub uuid : option_copied found.uuid ≡ value_of (codes "uuid") items
   pub image : option_copied found.image ≡ slice_get plain 0
+
+-- one of the flags stands, and no other
+abbrev pub has_only : AdminFlag → AdminFound → Bool
+has_only Format f = f.format && not (f.check || (f.repair || (f.relabel || (f.status || f.upgrade))))
+has_only Check f = f.check && not (f.format || (f.repair || (f.relabel || (f.status || f.upgrade))))
+has_only Repair f = f.repair && not (f.format || (f.check || (f.relabel || (f.status || f.upgrade))))
+has_only Relabel f = f.relabel && not (f.format || (f.check || (f.repair || (f.status || f.upgrade))))
+has_only Show f = f.status && not (f.format || (f.check || (f.repair || (f.relabel || f.upgrade))))
+has_only Upgrade f = f.upgrade && not (f.format || (f.check || (f.repair || (f.relabel || f.status))))
+
+abbrev pub flag_name : AdminFlag → List ℕ
+flag_name Format = codes "format"
+flag_name Check = codes "check"
+flag_name Repair = codes "repair"
+flag_name Relabel = codes "relabel"
+flag_name Show = codes "status"
+flag_name Upgrade = codes "upgrade"
+
+-- with these flags no option stands
+abbrev pub IsBareFlag : AdminFlag → Type 0
+IsBareFlag Check = Unit {0}
+IsBareFlag Repair = Unit {0}
+IsBareFlag Show = Unit {0}
+IsBareFlag _ = ⊥
+
+-- the task is that of the flag, with these options
+abbrev pub IsTaskOf : AdminFlag → AdminTask → Option (List ℕ) → Option (List ℕ) → Option (List ℕ) → Type 0
+IsTaskOf flag task label seq uuid = (task_flag task ≡ flag_name flag) × TakesOptions task label seq uuid

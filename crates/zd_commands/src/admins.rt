@@ -1,11 +1,14 @@
 //! The words of dmzadm.
 
-ghost use Rattle.std.specs.Prelude.{◌≡◌, List, map, string_bytes, IfNone, IfOk, IfSome};
+ghost use Rattle.std.specs.Prelude.{◌≡◌, ◌&&◌, not, true, List, map, string_bytes, IfNone, IfOk, IfSome};
+ghost use Rattle.std.specs.List.{list_any};
+ghost use Rattle.std.specs.Option.{option_copied};
 ghost use Rattle.clap.specs.Words.{found_of, rows_of};
 ghost use Rattle.zd_commands.specs.Admins.{admin_flags, admin_options, admin_places};
-ghost use Rattle.zd_commands.specs.Founds.{FindsAdmin, FindsRows, IsRead, IsUnread};
+ghost use Rattle.zd_commands.specs.Founds.{FindsAdmin, FindsRows, IsBareFlag, IsRead, IsTaskOf, IsUnread, has_only};
 ghost use Rattle.zd_commands.specs.Spelling.{Item};
 
+use crate::readers::{label_given, reserved_given, spelled_label, volume_given};
 use crate::reading::{matches, stands, value};
 use clap::ArgMatches;
 use std::alloc::Global;
@@ -94,5 +97,118 @@ fn admin_found<'a>(found: &ArgMatches<'a>) -> AdminFound<'a>
         seq: value(found, "seq"),
         uuid: value(found, "uuid"),
         image: value(found, "image"),
+    }
+}
+
+/// The flags of dmzadm.
+#[derive(Clone, Copy, Debug, PartialEq, Eq)]
+enum AdminFlag {
+    Format,
+    Check,
+    Repair,
+    Relabel,
+    Show,
+    Upgrade,
+}
+
+/// Whether the first stands, and none of the others.
+fn is_only(this: bool, others: [bool; 5]) -> bool
+    ensures { result ≡ (this && not (list_any (λ other. other) others)) }
+{
+    let [a, b, c, d, e] = others;
+    this && !(a || b || c || d || e)
+}
+
+/// The only flag that stands.
+fn only_flag(found: &AdminFound<'_>) -> Option<AdminFlag>
+    ensures some { IfSome result (λ flag. has_only flag found.now ≡ true) }
+    ensures none { IfNone result ((flag : AdminFlag) → has_only flag found.now ≡ true → ⊥) }
+{
+    let AdminFound {
+        format,
+        check,
+        repair,
+        relabel,
+        status,
+        upgrade,
+        ..
+    } = *found;
+    if is_only(format, [check, repair, relabel, status, upgrade]) {
+        return Some(AdminFlag::Format);
+    }
+    if is_only(check, [format, repair, relabel, status, upgrade]) {
+        return Some(AdminFlag::Check);
+    }
+    if is_only(repair, [format, check, relabel, status, upgrade]) {
+        return Some(AdminFlag::Repair);
+    }
+    if is_only(relabel, [format, check, repair, status, upgrade]) {
+        return Some(AdminFlag::Relabel);
+    }
+    if is_only(status, [format, check, repair, relabel, upgrade]) {
+        return Some(AdminFlag::Show);
+    }
+    if is_only(upgrade, [format, check, repair, relabel, status]) {
+        return Some(AdminFlag::Upgrade);
+    }
+    None
+}
+
+/// The task of a flag with which no option stands.
+fn bare_task(
+    flag: AdminFlag,
+    label: Option<&str>,
+    seq: Option<&str>,
+    uuid: Option<&str>,
+) -> Option<AdminTask>
+    ensures some { IfSome result (λ task. IsTaskOf flag task (option_copied label.entry) (option_copied seq.entry) (option_copied uuid.entry)) }
+    ensures none { IsBareFlag flag → IfNone result ((task : AdminTask)
+        → IsTaskOf flag task (option_copied label.entry) (option_copied seq.entry) (option_copied uuid.entry) → ⊥) }
+{
+    if label.is_some() || seq.is_some() || uuid.is_some() {
+        return None;
+    }
+    match flag {
+        AdminFlag::Check => Some(AdminTask::Check),
+        AdminFlag::Repair => Some(AdminTask::Repair),
+        AdminFlag::Show => Some(AdminTask::Show),
+        _ => None,
+    }
+}
+
+/// The task of a flag that gives a volume a label.
+fn label_task(
+    flag: AdminFlag,
+    label: Option<&str>,
+    seq: Option<&str>,
+    uuid: Option<&str>,
+) -> Option<AdminTask>
+    ensures some { IfSome result (λ task. IsTaskOf flag task (option_copied label.entry) (option_copied seq.entry) (option_copied uuid.entry)) }
+    ensures none { (IsBareFlag flag → ⊥) → IfNone result ((task : AdminTask)
+        → IsTaskOf flag task (option_copied label.entry) (option_copied seq.entry) (option_copied uuid.entry) → ⊥) }
+{
+    match flag {
+        AdminFlag::Format => {
+            let label = label_given(label)?;
+            let reserved = reserved_given(seq)?;
+            let volume = volume_given(uuid)?;
+            Some(AdminTask::Format { reserved, volume, label })
+        }
+        AdminFlag::Relabel => {
+            if seq.is_some() || uuid.is_some() {
+                return None;
+            }
+            let label = spelled_label(label?)?;
+            Some(AdminTask::Relabel { label })
+        }
+        AdminFlag::Upgrade => {
+            if seq.is_some() {
+                return None;
+            }
+            let label = label_given(label)?;
+            let volume = volume_given(uuid)?;
+            Some(AdminTask::Upgrade { volume, label })
+        }
+        _ => None,
     }
 }

@@ -2,6 +2,7 @@
 #![tactic(auto)]
 
 mod admins;
+mod readers;
 mod reading;
 
 pub use admins::AdminTask;
