@@ -10,3 +10,5 @@ mod Chains
 mod AdminTable
 mod Answering
 mod WordLaws
+mod OneFlag
+mod AdminLaws

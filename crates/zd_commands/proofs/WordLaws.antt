@@ -1,6 +1,6 @@
 -- What the words of options say.
 use Rattle.std.proofs.Common.{Bool, true, false, ◌≡◌, ℕ, ◌<◌, ◌≤◌, ◌-◌, ◌^◌, List, [], ◌++◌, drop, length, replicate, subst, map, ap₂, Option, Some, None, Result, Ok, Err, IfOk, IsOk, refl, sym, ap, ◌∙◌, arith}
-use Rattle.std.specs.Prelude.{◌≢◌, ◌↔◌, All, not}
+use Rattle.std.specs.Prelude.{◌≢◌, ◌↔◌, All, IfNone, IfSome, not}
 use Rattle.std.specs.Result.{result_ok}
 use Rattle.std.specs.Str.{bytes_eq}
 use Rattle.std.proofs.lemmas.Bool.{false≢true}
@@ -47,3 +47,15 @@ is_label_word word bytes copied is label same = record {
   nonzero = subst (λ (w : List ℕ). All (λ b. b ≢ 0) w) is label.1;
   padded = ap₂ (λ (v w : List ℕ). v ++ w) (same ∙ is) (drop-replicate (length bytes) 32 0 ∙ ap (λ (w : List ℕ). replicate (32 - length w) 0) is);
 }
+
+-- where nothing was found for one reason, it wasn't for another
+pub none_as : {T P Q : Type 0} (o : Option T) → (P → Q) → IfNone o P → IfNone o Q
+none_as None f h = f h
+none_as (Some x) f h = tt
+
+pub some_as : {T : Type 0} (o : Option T) (P Q : T → Type 0) → ((x : T) → P x → Q x) → IfSome o P → IfSome o Q
+some_as None P Q f h = tt
+some_as (Some x) P Q f h = f x h
+
+pub at_some : {T : Type 0} (o : Option T) (x : T) (P : T → Type 0) → o ≡ Some x → IfSome o P → P x
+at_some {T} o x P is h = subst (λ (o : Option T). IfSome o P) is h

@@ -75,3 +75,19 @@ IsBareFlag _ = ⊥
 -- the task is that of the flag, with these options
 abbrev pub IsTaskOf : AdminFlag → AdminTask → Option (List ℕ) → Option (List ℕ) → Option (List ℕ) → Type 0
 IsTaskOf flag task label seq uuid = (task_flag task ≡ flag_name flag) × TakesOptions task label seq uuid
+
+-- the flag was found
+abbrev pub has_flag : AdminFlag → AdminFound → Bool
+has_flag Format found = found.format
+has_flag Check found = found.check
+has_flag Repair found = found.repair
+has_flag Relabel found = found.relabel
+has_flag Show found = found.status
+has_flag Upgrade found = found.upgrade
+
+-- the words that were found make this command
+pub record MakesCommand (found : AdminFound) (task : AdminTask) (image : List ℕ) : Type 0 where
+  pub flag : AdminFlag
+  pub only : has_only flag found ≡ true
+  pub asked : IsTaskOf flag task (option_copied found.label) (option_copied found.seq) (option_copied found.uuid)
+  pub place : option_copied found.image ≡ Some image

@@ -1,11 +1,11 @@
 //! The words of dmzadm.
 
-ghost use Rattle.std.specs.Prelude.{◌≡◌, ◌&&◌, not, true, List, map, string_bytes, IfNone, IfOk, IfSome};
+ghost use Rattle.std.specs.Prelude.{ℕ, ◌≡◌, ◌&&◌, not, true, List, map, string_bytes, IfNone, IfOk, IfSome};
 ghost use Rattle.std.specs.List.{list_any};
 ghost use Rattle.std.specs.Option.{option_copied};
 ghost use Rattle.clap.specs.Words.{found_of, rows_of};
-ghost use Rattle.zd_commands.specs.Admins.{admin_flags, admin_options, admin_places};
-ghost use Rattle.zd_commands.specs.Founds.{FindsAdmin, FindsRows, IsBareFlag, IsRead, IsTaskOf, IsUnread, has_only};
+ghost use Rattle.zd_commands.specs.Admins.{AsksAdmin, admin_flags, admin_options, admin_places};
+ghost use Rattle.zd_commands.specs.Founds.{FindsAdmin, FindsRows, IsBareFlag, IsRead, IsTaskOf, IsUnread, MakesCommand, has_only};
 ghost use Rattle.zd_commands.specs.Spelling.{Item};
 
 use crate::readers::{label_given, reserved_given, spelled_label, volume_given};
@@ -51,6 +51,7 @@ pub enum AdminTask {
 }
 
 /// What was found in words.
+#[derive(Clone, Copy)]
 struct AdminFound<'a> {
     format: bool,
     check: bool,
@@ -176,39 +177,128 @@ fn bare_task(
     }
 }
 
-/// The task of a flag that gives a volume a label.
-fn label_task(
+/// The task of `--format`.
+fn format_task(label: Option<&str>, seq: Option<&str>, uuid: Option<&str>) -> Option<AdminTask>
+    ensures some { IfSome result (λ task.
+        IsTaskOf AdminFlag.Format task (option_copied label.entry) (option_copied seq.entry) (option_copied uuid.entry)) }
+    ensures none { IfNone result ((task : AdminTask)
+        → IsTaskOf AdminFlag.Format task (option_copied label.entry) (option_copied seq.entry) (option_copied uuid.entry) → ⊥) }
+{
+    let Some(label) = label_given(label) else {
+        return None;
+    };
+    let Some(reserved) = reserved_given(seq) else {
+        return None;
+    };
+    let Some(volume) = volume_given(uuid) else {
+        return None;
+    };
+    Some(AdminTask::Format {
+        reserved,
+        volume,
+        label,
+    })
+}
+
+/// The task of `--relabel`.
+fn relabel_task(label: Option<&str>, seq: Option<&str>, uuid: Option<&str>) -> Option<AdminTask>
+    ensures some { IfSome result (λ task.
+        IsTaskOf AdminFlag.Relabel task (option_copied label.entry) (option_copied seq.entry) (option_copied uuid.entry)) }
+    ensures none { IfNone result ((task : AdminTask)
+        → IsTaskOf AdminFlag.Relabel task (option_copied label.entry) (option_copied seq.entry) (option_copied uuid.entry) → ⊥) }
+{
+    match (label, seq, uuid) {
+        (Some(word), None, None) => match spelled_label(word) {
+            Some(label) => Some(AdminTask::Relabel { label }),
+            None => None,
+        },
+        _ => None,
+    }
+}
+
+/// The task of `--upgrade`.
+fn upgrade_task(label: Option<&str>, seq: Option<&str>, uuid: Option<&str>) -> Option<AdminTask>
+    ensures some { IfSome result (λ task.
+        IsTaskOf AdminFlag.Upgrade task (option_copied label.entry) (option_copied seq.entry) (option_copied uuid.entry)) }
+    ensures none { IfNone result ((task : AdminTask)
+        → IsTaskOf AdminFlag.Upgrade task (option_copied label.entry) (option_copied seq.entry) (option_copied uuid.entry) → ⊥) }
+{
+    if seq.is_some() {
+        return None;
+    }
+    let Some(label) = label_given(label) else {
+        return None;
+    };
+    let Some(volume) = volume_given(uuid) else {
+        return None;
+    };
+    Some(AdminTask::Upgrade { volume, label })
+}
+
+/// The task of a flag with these options.
+fn task_of(
     flag: AdminFlag,
     label: Option<&str>,
     seq: Option<&str>,
     uuid: Option<&str>,
 ) -> Option<AdminTask>
     ensures some { IfSome result (λ task. IsTaskOf flag task (option_copied label.entry) (option_copied seq.entry) (option_copied uuid.entry)) }
-    ensures none { (IsBareFlag flag → ⊥) → IfNone result ((task : AdminTask)
+    ensures none { IfNone result ((task : AdminTask)
         → IsTaskOf flag task (option_copied label.entry) (option_copied seq.entry) (option_copied uuid.entry) → ⊥) }
 {
     match flag {
-        AdminFlag::Format => {
-            let label = label_given(label)?;
-            let reserved = reserved_given(seq)?;
-            let volume = volume_given(uuid)?;
-            Some(AdminTask::Format { reserved, volume, label })
-        }
-        AdminFlag::Relabel => {
-            if seq.is_some() || uuid.is_some() {
-                return None;
-            }
-            let label = spelled_label(label?)?;
-            Some(AdminTask::Relabel { label })
-        }
-        AdminFlag::Upgrade => {
-            if seq.is_some() {
-                return None;
-            }
-            let label = label_given(label)?;
-            let volume = volume_given(uuid)?;
-            Some(AdminTask::Upgrade { volume, label })
-        }
-        _ => None,
+        AdminFlag::Format => format_task(label, seq, uuid),
+        AdminFlag::Relabel => relabel_task(label, seq, uuid),
+        AdminFlag::Upgrade => upgrade_task(label, seq, uuid),
+        AdminFlag::Check => bare_task(AdminFlag::Check, label, seq, uuid),
+        AdminFlag::Repair => bare_task(AdminFlag::Repair, label, seq, uuid),
+        AdminFlag::Show => bare_task(AdminFlag::Show, label, seq, uuid),
     }
+}
+
+/// A command of dmzadm.
+#[derive(Clone, Copy, Debug, PartialEq, Eq)]
+pub struct AdminCommand<'a> {
+    /// What it asks for.
+    pub task: AdminTask,
+    /// The word that stands for the image of a disk.
+    pub image: &'a str,
+}
+
+/// The command that words make, by what was found in them.
+fn made_command<'a>(found: &AdminFound<'a>) -> Option<AdminCommand<'a>>
+    ensures some { IfSome result (λ made. MakesCommand found.now made.task made.image.now) }
+    ensures none { IfNone result ((task : AdminTask) (image : List ℕ) → MakesCommand found.now task image → ⊥) }
+{
+    let Some(image) = found.image else {
+        return None;
+    };
+    let Some(flag) = only_flag(found) else {
+        return None;
+    };
+    let Some(task) = task_of(flag, found.label, found.seq, found.uuid) else {
+        return None;
+    };
+    Some(AdminCommand { task, image })
+}
+
+/// What words of dmzadm ask for, and of which image; none where they are no command.
+///
+/// The flags, the options and the image stand in any order, and `--option value` and `--option=value` are the same.
+/// `Memory` says that no memory was found to read the words, whatever they are.
+pub fn admin_command<'a>(
+    alloc: Global,
+    words: &'a [String],
+) -> Result<Option<AdminCommand<'a>>, Memory>
+    ensures some { IfOk result (λ made. IfSome made (λ command.
+        AsksAdmin (map string_bytes words.now) command.task command.image.now)) }
+    ensures none { IfOk result (λ made. IfNone made ((task : AdminTask) (image : List ℕ)
+        → AsksAdmin (map string_bytes words.now) task image → ⊥)) }
+{
+    let found = match admin_matches(alloc, words) {
+        Ok(Some(found)) => admin_found(&found),
+        Ok(None) => return Ok(None),
+        Err(Memory) => return Err(Memory),
+    };
+    Ok(made_command(&found))
 }

@@ -5,4 +5,4 @@ mod admins;
 mod readers;
 mod reading;
 
-pub use admins::AdminTask;
+pub use admins::{AdminCommand, AdminTask, LABEL_BYTES, admin_command};
