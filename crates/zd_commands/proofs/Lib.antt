@@ -12,3 +12,5 @@ mod Answering
 mod WordLaws
 mod OneFlag
 mod AdminLaws
+mod AloneTable
+mod ReplayTable

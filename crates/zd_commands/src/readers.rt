@@ -16,14 +16,17 @@ const MOST_RESERVED: u64 = 65_536;
 /// The reserved zones where a command doesn't say how many.
 const RESERVED: u32 = 2;
 
-/// The number up to `most` that a word writes, without leading zeros.
-pub(crate) fn number_up_to(word: &str, most: u64) -> Option<u64>
-    ensures some { IfSome result (λ n. (word.now ≡ numeral n) × (n ≤ most)) }
-    ensures none { IfNone result ((n : ℕ) → word.now ≡ numeral n → n ≤ most → ⊥) }
+/// The number from `least` to `most` that a word writes, without leading zeros.
+pub(crate) fn number_between(word: &str, least: u64, most: u64) -> Option<u64>
+    ensures some { IfSome result (λ n. (word.now ≡ numeral n) × (least ≤ n) × (n ≤ most)) }
+    ensures none { IfNone result ((n : ℕ) → word.now ≡ numeral n → least ≤ n → n ≤ most → ⊥) }
 {
     let Ok(number) = word.parse::<u64>() else {
         return None;
     };
+    if number < least {
+        return None;
+    }
     if number > most {
         return None;
     }
@@ -72,7 +75,7 @@ pub(crate) fn reserved_given(word: Option<&str>) -> Option<u32>
     ensures none { IfNone result ((reserved : ℕ) → GivesReserved (option_copied word.entry) reserved → ⊥) }
 {
     match word {
-        Some(word) => match number_up_to(word, MOST_RESERVED) {
+        Some(word) => match number_between(word, 0, MOST_RESERVED) {
             Some(number) => Some(number as u32),
             None => None,
         },
