@@ -14,3 +14,4 @@ mod OneFlag
 mod AdminLaws
 mod AloneTable
 mod ReplayTable
+mod ReplayLaws
