@@ -83,11 +83,11 @@ module _ (words : List Text) (rows : List Row) (found : AdminFound) (read : IsRe
         plain = read.plain;
         reading = read.reading;
         flag = subst (λ (name : Text). IsOnlyFlag name read.items) (sym m.asked.0)
-        (to_only_flag m.flag found read.items read.plain found_as (each_item admin_flags admin_options read.items read.reading.has) m.only);
+            (to_only_flag m.flag found read.items read.plain found_as (each_item admin_flags admin_options read.items read.reading.has) m.only);
         place = only_word read.plain image (sym found_as.image ∙ m.place) read.few;
         takes = same_options asked (option_copied found.label) (option_copied found.seq) (option_copied found.uuid)
-        (value_of (codes "label") read.items) (value_of (codes "seq") read.items) (value_of (codes "uuid") read.items)
-        found_as.label found_as.seq found_as.uuid m.asked.1;
+            (value_of (codes "label") read.items) (value_of (codes "seq") read.items) (value_of (codes "uuid") read.items)
+            found_as.label found_as.seq found_as.uuid m.asked.1;
       }
 
   pub asks_made : (asked : AdminTask) (image : Text) → AsksAdmin words asked image → MakesCommand found asked image
@@ -97,7 +97,10 @@ module _ (words : List Text) (rows : List Row) (found : AdminFound) (read : IsRe
       record {
         flag = flag_for asked;
         only = from_only_flag (flag_for asked) found a.items a.plain found_as (subst (λ (name : Text). IsOnlyFlag name a.items) (flag_is asked) a.flag);
-        asked = (flag_is asked, same_options asked (value_of (codes "label") a.items) (value_of (codes "seq") a.items) (value_of (codes "uuid") a.items)
-        (option_copied found.label) (option_copied found.seq) (option_copied found.uuid) (sym found_as.label) (sym found_as.seq) (sym found_as.uuid) a.takes);
+        asked = (
+          flag_is asked,
+          same_options asked (value_of (codes "label") a.items) (value_of (codes "seq") a.items) (value_of (codes "uuid") a.items)
+              (option_copied found.label) (option_copied found.seq) (option_copied found.uuid) (sym found_as.label) (sym found_as.seq) (sym found_as.uuid) a.takes,
+        );
         place = found_as.image ∙ ap (λ (ws : List Text). slice_get ws 0) a.place;
       }

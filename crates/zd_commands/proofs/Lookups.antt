@@ -197,8 +197,10 @@ flag_text b = cond b (Some (codes "true")) None
 
 past_flag : (id : Text) (u : Use) (us : List Use) (b : Bool) → bytes_eq (use_id u) id ≡ false
     → (flag_in id us ≡ flag_text b) × (has_row id (map use_row us) ≡ b) → (flag_in id (u ∷ us) ≡ flag_text b) × (has_row id (map use_row (u ∷ us)) ≡ b)
-past_flag id u us b h next = (ap (λ (c : Bool). option_and_then row_text (cond c (Some (use_row u)) (row_with id (map use_row us)))) h ∙ next.0,
-  ap (λ (c : Bool). c || has_row id (map use_row us)) h ∙ next.1)
+past_flag id u us b h next = (
+  ap (λ (c : Bool). option_and_then row_text (cond c (Some (use_row u)) (row_with id (map use_row us)))) h ∙ next.0,
+  ap (λ (c : Bool). c || has_row id (map use_row us)) h ∙ next.1,
+)
 
 flag_first : (id m : Text) (us : List Use) (b : Bool) → (flag_in id us ≡ flag_text b) × (has_row id (map use_row us) ≡ b)
     → (flag_in id (flag_use m ∷ us) ≡ flag_text (bytes_eq m id || b)) × (has_row id (map use_row (flag_use m ∷ us)) ≡ (bytes_eq m id || b))

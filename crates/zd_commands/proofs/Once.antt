@@ -66,41 +66,46 @@ module _ (flags options : List Text) where
   unfolding IsDistinct
   places_new place [] words us dist free = tt
   places_new place (l ∷ left) [] us dist free = tt
-  places_new place (l ∷ left) (w ∷ words) us dist free =
-      (free l (first_among l left),
-      places_new (min (place + 1) usize_max) left words (us ++ place_use l place w ∷ []) dist.1
-      (still_free us (place_use l place w) left (λ n h. free n (later_among l n left h)) (differs l left dist.0)))
+  places_new place (l ∷ left) (w ∷ words) us dist free = (
+    free l (first_among l left),
+    places_new (min (place + 1) usize_max) left words (us ++ place_use l place w ∷ []) dist.1
+        (still_free us (place_use l place w) left (λ n h. free n (later_among l n left h)) (differs l left dist.0)),
+  )
 
   pub all_new : (items : List Item) (rest : List Text) (us : List Use) (place : ℕ) (left : List Text) → AllItems flags options items → AreApart left flags → AreApart left options
       → IsDistinct bytes_eq left → IsDistinct bytes_eq (names_of items) → IsFree us (names_of items) → IsFree us left → AllNew us (uses place left items rest)
   unfolding IsDistinct
   all_new [] rest us place left has nf none dist once free_names free = places_new place left rest us dist free
   all_new (flag m ∷ items) rest us place left has nf none dist once free_names free =
-      let u = flag_use m in
-      (free_names m (first_among m (names_of items)),
-      all_new items rest (us ++ u ∷ []) place left has.1 nf none dist once.1
-      (still_free us u (names_of items) (λ n h. free_names n (later_among m n (names_of items) h)) (differs m (names_of items) once.0))
-      (still_free us u left free (λ n h. apart_names flags m n has.0 (nf n h))))
+      let u = flag_use m in (
+        free_names m (first_among m (names_of items)),
+        all_new items rest (us ++ u ∷ []) place left has.1 nf none dist once.1
+            (still_free us u (names_of items) (λ n h. free_names n (later_among m n (names_of items) h)) (differs m (names_of items) once.0))
+            (still_free us u left free (λ n h. apart_names flags m n has.0 (nf n h))),
+      )
   all_new (apart m v ∷ items) rest us place left has nf none dist once free_names free =
-      let u = value_use m v in
-      (free_names m (first_among m (names_of items)),
-      all_new items rest (us ++ u ∷ []) place left has.1 nf none dist once.1
-      (still_free us u (names_of items) (λ n h. free_names n (later_among m n (names_of items) h)) (differs m (names_of items) once.0))
-      (still_free us u left free (λ n h. apart_names options m n has.0.0 (none n h))))
+      let u = value_use m v in (
+        free_names m (first_among m (names_of items)),
+        all_new items rest (us ++ u ∷ []) place left has.1 nf none dist once.1
+            (still_free us u (names_of items) (λ n h. free_names n (later_among m n (names_of items) h)) (differs m (names_of items) once.0))
+            (still_free us u left free (λ n h. apart_names options m n has.0.0 (none n h))),
+      )
   all_new (joined m v ∷ items) rest us place left has nf none dist once free_names free =
-      let u = value_use m v in
-      (free_names m (first_among m (names_of items)),
-      all_new items rest (us ++ u ∷ []) place left has.1 nf none dist once.1
-      (still_free us u (names_of items) (λ n h. free_names n (later_among m n (names_of items) h)) (differs m (names_of items) once.0))
-      (still_free us u left free (λ n h. apart_names options m n has.0 (none n h))))
+      let u = value_use m v in (
+        free_names m (first_among m (names_of items)),
+        all_new items rest (us ++ u ∷ []) place left has.1 nf none dist once.1
+            (still_free us u (names_of items) (λ n h. free_names n (later_among m n (names_of items) h)) (differs m (names_of items) once.0))
+            (still_free us u left free (λ n h. apart_names options m n has.0 (none n h))),
+      )
   all_new (plain w ∷ items) rest us place [] has nf none dist once free_names free = all_new items rest us place [] has.1 nf none dist once free_names free
   all_new (plain w ∷ items) rest us place (l ∷ left) has nf none dist once free_names free =
       let u = place_use l place w in
-      let new = first_among l left in
-      (free l new,
-      all_new items rest (us ++ u ∷ []) (min (place + 1) usize_max) left has.1 (later_apart l left flags nf) (later_apart l left options none) dist.1 once
-      (still_free us u (names_of items) free_names (λ n h. other l n items (unknown l items (nf l new) (none l new) has.1) h))
-      (still_free us u left (λ n h. free n (later_among l n left h)) (differs l left dist.0)))
+      let new = first_among l left in (
+        free l new,
+        all_new items rest (us ++ u ∷ []) (min (place + 1) usize_max) left has.1 (later_apart l left flags nf) (later_apart l left options none) dist.1 once
+            (still_free us u (names_of items) free_names (λ n h. other l n items (unknown l items (nf l new) (none l new) has.1) h))
+            (still_free us u left (λ n h. free n (later_among l n left h)) (differs l left dist.0)),
+      )
     where
       other : (l n : Text) (items : List Item) → is_among (names_of items) l ≡ false → is_among (names_of items) n ≡ true → bytes_eq l n ≡ false
       other l n items k h = go (bytes_eq l n) refl

@@ -104,7 +104,7 @@ pub to_only_flag : (a : AdminFlag) (f : AdminFound) (items : List Item) (words :
 to_only_flag a f items words finds has h = record {
   stands = sym (found_in f items words finds a) ∙ only_to a f h a ∙ same_as_itself a;
   only = λ other stands. by_name (λ n. is_among (flags_of items) n ≡ true → n ≡ flag_name a) admin_flags other
-  (each Format, (each Check, (each Repair, (each Relabel, (each Show, (each Upgrade, tt)))))) (flags_known items other has stands) stands;
+      (each Format, (each Check, (each Repair, (each Relabel, (each Show, (each Upgrade, tt)))))) (flags_known items other has stands) stands;
 }
   where
     each : (b : AdminFlag) → is_among (flags_of items) (flag_name b) ≡ true → flag_name b ≡ flag_name a

@@ -142,16 +142,20 @@ module _ (flags options places : List Text) (p : IsProgram flags options places)
   pub reading_of : (words : List Text) → AllUtf8 words → fault_of (app_with flags options places) words ≡ []
       → (items : List Item) × (plain : List Text) × IsReading flags options words items plain × (length plain ≤ length places)
   reading_of words utf h =
-      let found : AreItems p.rules flags options table [] None 1 places words = spelled p.rules flags options table words [] None 1 places p.placed tt utf (passes_from words h) in
-      (found.items, flat_map item_plain found.items ++ found.rest, record {
-        rest = found.rest;
-        «end» = found.«end»;
-        spelled = found.spelled;
-        ended = found.ended;
-        has = all_items flags options found.items found.has;
-        once = distinct found.items found.rest [] 1 places found.all;
-        placed = refl;
-      }, found.room)
+      let found : AreItems p.rules flags options table [] None 1 places words = spelled p.rules flags options table words [] None 1 places p.placed tt utf (passes_from words h) in (
+        found.items,
+        flat_map item_plain found.items ++ found.rest,
+        record {
+          rest = found.rest;
+          «end» = found.«end»;
+          spelled = found.spelled;
+          ended = found.ended;
+          has = all_items flags options found.items found.has;
+          once = distinct found.items found.rest [] 1 places found.all;
+          placed = refl;
+        },
+        found.room,
+      )
 
   module _ (words : List Text) (items : List Item) (plain : List Text) (r : IsReading flags options words items plain) (few : length plain ≤ length places) where
     has : AllItems flags options items

@@ -58,9 +58,11 @@ module _ (options words : List Text) (rows : List Row) (found : ReplayFound) (re
       → TakesReplay task image ws (value_of (codes "make") items) (value_of (codes "count") items) → MakesReplay found task image
   takes_made task image items ws reading h =
       let found_as = finds items ws (read.each items ws reading (few_words ws task image (value_of (codes "make") items) (value_of (codes "count") items) h)) in
-      let parts = takes_to ws task image (value_of (codes "make") items) (value_of (codes "count") items) h in
-      (found_as.image ∙ parts.0, same_task task _ _ _ (option_copied found.script) (option_copied found.seed) (option_copied found.count)
-      (sym found_as.script) (sym found_as.seed) (sym found_as.count) parts.1)
+      let parts = takes_to ws task image (value_of (codes "make") items) (value_of (codes "count") items) h in (
+        found_as.image ∙ parts.0,
+        same_task task _ _ _ (option_copied found.script) (option_copied found.seed) (option_copied found.count)
+            (sym found_as.script) (sym found_as.seed) (sym found_as.count) parts.1,
+      )
 
   -- a value of an option of its own
   pub option_is : (name : Text) (v : Option Text) → ((items : List Item) (ws : List Text) → FindsRows [] options replay_places rows items ws → v ≡ value_of name items)

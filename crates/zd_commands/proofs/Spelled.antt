@@ -102,7 +102,7 @@ module _ (rules : List Rule) where
       has = (has, h.has);
       new = new;
       all = subst (AllNew (us ++ one p)) (sym (used h.items h.rest))
-      (next, subst (λ (vs : List Use). AllNew vs (uses place left h.items h.rest)) (append-nil ((us ++ one p) ++ u ∷ [])) h.all);
+          (next, subst (λ (vs : List Use). AllNew vs (uses place left h.items h.rest)) (append-nil ((us ++ one p) ++ u ∷ [])) h.all);
       room = subst (λ (ws : List Text). length ((ws ++ flat_map item_plain h.items) ++ h.rest) ≤ length left) (sym none) h.room;
     }
 
@@ -164,7 +164,7 @@ module _ (rules : List Rule) where
           «end» = more.rest.«end»;
           rest = more.rest.rest;
           spelled = ap (λ (ws : List Text). (45 ∷ 45 ∷ z ∷ zs) ∷ ws) (more.spelled ∙ ap (λ (ws : List Text). more.value ∷ ws) more.rest.spelled)
-          ∙ ap (λ (m : Text). (45 ∷ 45 ∷ m) ∷ more.value ∷ (flat_map item_words more.rest.items ++ more.rest.«end»)) is;
+              ∙ ap (λ (m : Text). (45 ∷ 45 ∷ m) ∷ more.value ∷ (flat_map item_words more.rest.items ++ more.rest.«end»)) is;
           ended = more.rest.ended;
           has = ((known, more.plain), more.rest.has);
           new = new;
@@ -214,8 +214,8 @@ module _ (rules : List Rule) where
       spelled = refl;
       plain = is;
       rest = next us (Some (value_use n w)) place left places (t.own n known) utf.1
-      (rest_passes (waits_for rules us n place) (calm rules us (Some (value_use n w)) place false) w words
-      (value_walked rules us n place w (no_option w is) (t.own n known)) h);
+          (rest_passes (waits_for rules us n place) (calm rules us (Some (value_use n w)) place false) w words
+          (value_walked rules us n place w (no_option w is) (t.own n known)) h);
     }
 
     long_waiting : (z : ℕ) (zs : Text) (words : List Text) → FromWaiting ((45 ∷ 45 ∷ z ∷ zs) ∷ words)
@@ -243,8 +243,11 @@ module _ (rules : List Rule) where
 
     dashed_both : (ys : Text) (words : List Text) → FromBoth words → FromBoth ((45 ∷ 45 ∷ ys) ∷ words)
     dashed_both [] words next = (ending_calm words, ending_waiting words)
-    dashed_both (z ∷ zs) words next = (long_calm z zs words next.0 next.1 (name_and_value (z ∷ zs)) refl (named (z ∷ zs))
-        (is_among flags (name_and_value (z ∷ zs)).0) (is_among options (name_and_value (z ∷ zs)).0) refl refl, long_waiting z zs words)
+    dashed_both (z ∷ zs) words next = (
+      long_calm z zs words next.0 next.1 (name_and_value (z ∷ zs)) refl (named (z ∷ zs))
+          (is_among flags (name_and_value (z ∷ zs)).0) (is_among options (name_and_value (z ∷ zs)).0) refl refl,
+      long_waiting z zs words,
+    )
 
     option_both : (y : ℕ) (ys : Text) (words : List Text) → FromBoth words → (b : Bool) → (y == 45) ≡ b → FromBoth ((45 ∷ y ∷ ys) ∷ words)
     option_both y ys words next true e =

@@ -66,14 +66,13 @@ struct AdminFound<'a> {
 }
 
 static FLAGS: [&str; 6] = ["format", "check", "repair", "relabel", "status", "upgrade"];
+
 static OPTIONS: [&str; 3] = ["label", "seq", "uuid"];
+
 static PLACES: [&str; 1] = ["image"];
 
 /// What clap finds in words of dmzadm; none where it refuses them.
-fn admin_matches<'a>(
-    alloc: Global,
-    words: &'a [String],
-) -> Result<Option<ArgMatches<'a>>, Memory>
+fn admin_matches<'a>(alloc: Global, words: &'a [String]) -> Result<Option<ArgMatches<'a>>, Memory>
     ensures some { IfOk result (λ found. IfSome found (λ m. IsRead admin_flags admin_options (map string_bytes words.now) 1
         (FindsRows admin_flags admin_options admin_places (rows_of (found_of m))))) }
     ensures none { IfOk result (λ found. IfNone found (IsUnread admin_flags admin_options (map string_bytes words.now) 1)) }

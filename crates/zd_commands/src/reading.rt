@@ -20,9 +20,7 @@ fn with_flags<'a>(
 {
     let mut command = command;
     for name in names {
-        let flag = Arg::new(alloc, name)
-            .long(name)
-            .action(ArgAction::SetTrue);
+        let flag = Arg::new(alloc, name).long(name).action(ArgAction::SetTrue);
         command = command.arg(flag)?;
     }
     Ok(command)
@@ -38,9 +36,7 @@ fn with_options<'a>(
 {
     let mut command = command;
     for name in names {
-        let option = Arg::new(alloc, name)
-            .long(name)
-            .action(ArgAction::Set);
+        let option = Arg::new(alloc, name).long(name).action(ArgAction::Set);
         command = command.arg(option)?;
     }
     Ok(command)

@@ -24,8 +24,11 @@ const MOST_ACTORS: u64 = 64;
 const ACTORS: u32 = 4;
 
 static FLAGS: [&str; 0] = [];
+
 static ALONE_OPTIONS: [&str; 2] = ["make", "count"];
+
 static OPTIONS: [&str; 3] = ["make", "count", "actors"];
+
 static PLACES: [&str; 2] = ["image", "script"];
 
 /// What a command of a replay asks for.
@@ -75,10 +78,7 @@ struct ReplayFound<'a> {
 }
 
 /// What clap finds in words of zreplay_one; none where it refuses them.
-fn alone_matches<'a>(
-    alloc: Global,
-    words: &'a [String],
-) -> Result<Option<ArgMatches<'a>>, Memory>
+fn alone_matches<'a>(alloc: Global, words: &'a [String]) -> Result<Option<ArgMatches<'a>>, Memory>
     ensures some { IfOk result (λ found. IfSome found (λ m. IsRead [] alone_options (map string_bytes words.now) 2
         (FindsRows [] alone_options replay_places (rows_of (found_of m))))) }
     ensures none { IfOk result (λ found. IfNone found (IsUnread [] alone_options (map string_bytes words.now) 2)) }
@@ -87,10 +87,7 @@ fn alone_matches<'a>(
 }
 
 /// What clap finds in words of zreplay; none where it refuses them.
-fn replay_matches<'a>(
-    alloc: Global,
-    words: &'a [String],
-) -> Result<Option<ArgMatches<'a>>, Memory>
+fn replay_matches<'a>(alloc: Global, words: &'a [String]) -> Result<Option<ArgMatches<'a>>, Memory>
     ensures some { IfOk result (λ found. IfSome found (λ m. IsRead [] replay_options (map string_bytes words.now) 2
         (FindsRows [] replay_options replay_places (rows_of (found_of m))))) }
     ensures none { IfOk result (λ found. IfNone found (IsUnread [] replay_options (map string_bytes words.now) 2)) }
@@ -226,7 +223,11 @@ pub fn replay_command<'a>(
         return Ok(None);
     };
     match made_replay(&found) {
-        Some(AloneCommand { task, image }) => Ok(Some(ReplayCommand { task, image, actors })),
+        Some(AloneCommand { task, image }) => Ok(Some(ReplayCommand {
+            task,
+            image,
+            actors,
+        })),
         None => Ok(None),
     }
 }

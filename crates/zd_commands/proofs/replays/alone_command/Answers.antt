@@ -20,7 +20,7 @@ returns-clause-some c =
       plain = read.plain;
       reading = read.reading;
       takes = made_takes alone_options words (rows_of (found_of c.in-Ok-Some.found)) c.replay_found-found.result read
-      (λ items ws rows. c.replay_found-found.ensures alone_options items ws refl refl rows) made.task made.image.now h;
+          (λ items ws rows. c.replay_found-found.ensures alone_options items ws refl refl rows) made.task made.image.now h;
     }) c.made_replay.ensures.some
 
 pub returns-clause-none : goal.returns-clause-none

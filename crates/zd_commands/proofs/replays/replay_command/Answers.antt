@@ -36,10 +36,10 @@ returns-in-Some-made_replay-clause-some c =
       reading = read.reading;
       takes = takes;
       gives = subst (λ (o : Option (List ℕ)). GivesActors o c.in-Some.actors)
-      (option_is replay_options words (rows_of (found_of c.in-Ok-Some.found)) c.replay_found.result read
-      (λ items ws rows. c.replay_found.ensures replay_options items ws refl refl rows) (codes "actors") (option_copied c.value.result)
-      (λ items ws rows. c.value.ensures ∙ rows.option (codes "actors") refl) c.in-Some-made_replay.field-0.task c.in-Some-made_replay.field-0.image.now
-      read.items read.plain read.reading takes) c.in-Some.ensures.some;
+          (option_is replay_options words (rows_of (found_of c.in-Ok-Some.found)) c.replay_found.result read
+          (λ items ws rows. c.replay_found.ensures replay_options items ws refl refl rows) (codes "actors") (option_copied c.value.result)
+          (λ items ws rows. c.value.ensures ∙ rows.option (codes "actors") refl) c.in-Some-made_replay.field-0.task c.in-Some-made_replay.field-0.image.now
+          read.items read.plain read.reading takes) c.in-Some.ensures.some;
     }
 
 pub returns-in-None-clause-none : goal.returns-in-None-clause-none
