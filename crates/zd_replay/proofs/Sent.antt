@@ -34,9 +34,13 @@ module _ (D : RattleType) (g : ZonedDisk.Ghosts D.Denot) (s : IsSend D) where
 
   pub session_send : IsSend (session.the_row D g)
   session_send =
-      view_send (in_session.the_row D g) _ _ _ _ (declared_send (in_session.the_type D g)
-      (volume_send, (search (crosses, sendable, request.the_send) depth 20,
-      (progress.the_send, (search (crosses, sendable, piece.the_send) depth 20, tt)))))
+      view_send (in_session.the_row D g) _ _ _ _ (declared_send (in_session.the_type D g) (
+        volume_send,
+        (
+          search (crosses, sendable, request.the_send) depth 20,
+          (progress.the_send, (search (crosses, sendable, piece.the_send) depth 20, tt)),
+        ),
+      ))
 
   pub caused_send : IsSend (caused.the_row D g)
   caused_send = declared_send (caused.the_type D g) (session_send, tt)

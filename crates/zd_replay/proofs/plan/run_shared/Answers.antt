@@ -30,7 +30,6 @@ pub run_actors-caused-requires-send-T : goal.run_actors-caused-requires-send-T
 run_actors-caused-requires-send-T g c κs within =
     (let caused : IsSend (row.the_row (param 0 g.row.D) g.D.ZonedDisk) = caused_send (param 0 g.row.D) g.D.ZonedDisk (search (crosses, sendable, c.type_bounds.send-D)) in search (crosses, sendable))
 
-
 pub returns : goal.returns
 returns g c =
     let view = g.D.ZonedDisk.view in

@@ -1,0 +1,17 @@
+mod Lookups
+mod Names
+mod Once
+mod Passing
+mod Programs
+mod Rows
+mod Spelled
+mod Turns
+mod Chains
+mod AdminTable
+mod Answering
+mod WordLaws
+mod OneFlag
+mod AdminLaws
+mod AloneTable
+mod ReplayTable
+mod ReplayLaws
