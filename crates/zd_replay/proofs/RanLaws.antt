@@ -38,7 +38,8 @@ use Rattle.zd_volume.specs.Volumes.{PlainVolume}
 use Rattle.zd_replay.specs.Ends.{EndsRun, IsFixedRun, IsReplayCommand, ReplayCause, ReplayPassed, all_done}
 use Rattle.zd_replay.specs.Ends.{no_generation, replay_telling, stop_of}
 use Rattle.zd_replay.specs.Headline.{DoesAll, KeepsHeadline, pieces_in}
-use Rattle.zd_replay.specs.Replay.{Replayed, Reports, ReportsAlone, TellsRunFaults, UsesGenerations}
+use Rattle.zd_replay.specs.Replay.{Replayed, Reports, ReportsAlone, ReportsShared, TellsRunFaults}
+use Rattle.zd_replay.specs.Replay.{UsesGenerations}
 use Rattle.zd_replay.specs.Run.{RunsInTime, RunsPlan}
 use Rattle.zd_replay.specs.Spacing.{IsSpaced, LacksGenerations}
 use Rattle.zd_replay.proofs.BaseLaws.{base_size, kept_base}
@@ -83,7 +84,7 @@ module _ (u w x : View) (plan : List Request) (outcome : Outcome) (history : Lis
         (subst IsShape same_shape ran.shape) well (Both-at u.zones w.zones IsKept image into.0 there into.1 kept.reads.reads)
 
     now_told : (i : Image) × (x.zones ≡ Some i)
-    now_told = ran.history_of.shows into.0 into.1
+    now_told = ran.stands.shows into.0 into.1
 
     blocks_are : device_blocks from.geometry from.head.layout ≡ length (base_of image) / 8
     blocks_are =
@@ -98,20 +99,20 @@ module _ (u w x : View) (plan : List Request) (outcome : Outcome) (history : Lis
     ran_headline : KeepsHeadline image plan history w.calls x
     ran_headline = record {
       legal = λ small.
-          subst (λ (b : List (List ℕ)). IsLegal b history) base_is (ran.history_of.legal small now_told.0 now_told.1);
+          subst (λ (b : List (List ℕ)). IsLegal b history) base_is (ran.stands.legal small now_told.0 now_told.1);
       ordered =
           subst (λ (blocks : ℕ). IsOrdered image.geometry.zone_blocks blocks plan history) blocks_are
           (subst (λ (z : ℕ). IsOrdered z (device_blocks from.geometry from.head.layout) plan history) same_blocks
           ran.ordered);
       by_now = λ small.
-          let count = ran.history_of.counted.count small in
+          let count = ran.stands.counted.count small in
           subst (λ (h : List HistoryEntry). AreBy (x.calls - w.calls) h) ran.last_history
           (subst (λ (n : ℕ). AreBy n ran.last.history)
           (let e : ran.last.since ≡ x.calls - w.calls = omega (arith, count) in e)
-          ran.history_of.counted.by_now);
+          ran.stands.counted.by_now);
       safe = λ small.
           subst (λ (b : List (List ℕ)). AtEach (IsSafe b history) w.calls x.calls x.left) base_is
-          (ran.history_of.safe small now_told.0 now_told.1);
+          (ran.stands.safe small now_told.0 now_told.1);
     }
 
     ran_done : outcome ≡ all_done → DoesAll image plan history x
@@ -130,11 +131,11 @@ module _ (u w x : View) (plan : List Request) (outcome : Outcome) (history : Lis
         let first = first_generation in
         let same = ran.generations in
         let last = ran.generation stopped in
-        let most = ran.history_of.counted.generation small in
-        let count = ran.history_of.counted.count small in
+        let most = ran.stands.counted.generation small in
+        let count = ran.stands.counted.count small in
         (chosen_of v.chosen, well.is_chosen, omega (arith, first, same, last, most, count))
 
-    module _ (timely : RunsInTime plan outcome history from) where
+    module _ (timely : RunsInTime plan outcome history from w x) where
       ran_spaced : IsSpaced image history
       ran_spaced set is =
           let one : set ≡ chosen_of v.chosen = Some-same set (chosen_of v.chosen) (sym is ∙ well.is_chosen) in
@@ -201,7 +202,7 @@ module _ (u w x : View) (plan : List Request) (outcome : Outcome) (history : Lis
           unread = λ less. absurd (omega (arith, less));
           none_before = λ less. absurd (omega (arith, less));
           unbegun = λ is e. (let none = ran.unbegun e in record { none = none.0; calls = none.1 });
-          opens = opened_after v u w x opening way.order ran.history_of.counted.later;
+          opens = opened_after v u w x opening way.order ran.stands.counted.later;
           headline = λ is. ran_headline;
           done = λ e image there. ran_done image there e;
           faulted = ran_faults;
@@ -210,13 +211,21 @@ module _ (u w x : View) (plan : List Request) (outcome : Outcome) (history : Lis
         }
 
         -- by one actor that prefers pieces
-        pub reports_alone : RunsInTime plan outcome history from → KeepsFrom (u.calls + 1) u w
+        pub reports_alone : RunsInTime plan outcome history from w x → KeepsFrom (u.calls + 1) u w
             → ReportsAlone words left u x status held after faults now
         reports_alone timely settled = record {
           run = ran_run;
           reports = reports_ran;
-          opening = ran_leaves u w x ran.history_of.counted.later (λ image there. now_told image there)
-              ran.history_of.earlier (opened_some v u w x opening) outcome way kept settled;
+          opening = ran_leaves u w x ran.stands.counted.later (λ image there. now_told image there)
+              timely.earlier (opened_some v u w x opening) outcome way kept settled;
           spaced = λ image there. ran_spaced image there timely;
           spare = λ e image there. ran_spare image there timely e;
+        }
+
+        -- by many
+        pub reports_shared : ReportsShared words left u x status held after faults now
+        reports_shared = record {
+          run = ran_run;
+          reports = reports_ran;
+          opening = λ less. absurd (omega (arith, less));
         }

@@ -5,10 +5,12 @@ use Rattle.std.specs.Prelude.{IfErr, OnOk, if◌then◌else◌, is_some}
 use Rattle.zd_base.specs.declared.numbers.Why.{Why}
 use Rattle.zd_base.specs.declared.steps.Prefer.{Prefer}
 use Rattle.zd_base.specs.declared.steps.StepKind.{StepKind}
+use Rattle.zd_base.specs.declared.steps.Stepped.{Stepped}
 use Rattle.zd_disk.proofs.ToldLaws.{Some-same}
 use Rattle.zd_disk.specs.View.{HasFailed, View}
 use Rattle.zd_model.specs.Requests.{Operation, operation_of}
 use Rattle.zd_model.specs.Requests.Operation.{Reading, Writing, Discarding, Flushing}
+use Rattle.zd_model.specs.Safe.{base_at}
 use Rattle.zd_model.specs.declared.requests.Piece.{Piece}
 use Rattle.zd_steps.specs.Runs.{is_over}
 use Rattle.zd_steps.specs.declared.step.Step.{Step}
@@ -29,16 +31,13 @@ use Rattle.zd_write.specs.declared.steps.Tried.{Tried}
 use Rattle.zd_volume.specs.FaultCounts.{AreCalm}
 use Rattle.zd_session.specs.LoneSessions.{IsNewSession, RunsLone}
 use Rattle.zd_session.specs.Serving.{EntersTried, FailsEdge, ReadsEdgeOf, ServesBy, ServesIn}
-use Rattle.zd_session.specs.SessionSteps.{KeepsSession, Makes, MakesTurns}
+use Rattle.zd_session.specs.Constants.{IsSameSession}
+use Rattle.zd_session.specs.SessionSteps.{KeepsSession, Makes, MakesStep, MakesTurns}
 use Rattle.zd_session.specs.Sessions.{SessionView, next_seen, run_seen, standing_seen}
-use Rattle.zd_replay.specs.Run.{RunsAlone, StopsFor}
+use Rattle.zd_replay.specs.Run.{HasCause, RunsAlone, StopsFor}
 
--- a volume that has stopped says why
-pub record HasCause (v : PlainVolume) : Type 0 where
-  pub cause : (why : Why) → v.stopped ≡ Some why → StopsFor why v
-
--- one that goes on, and one whose disk failed
-going : (v : PlainVolume) → v.stopped ≡ None → HasCause v
+-- a volume that goes on, and one whose disk failed
+pub going : (v : PlainVolume) → v.stopped ≡ None → HasCause v
 going v runs = record { cause = λ why is. absurd (let e : None ≡ Some why = sym runs ∙ is in let f : ⊥ = cc in f) }
 
 by_disk : (v : PlainVolume) → v.stopped ≡ Some Why.Device → HasCause v
@@ -224,14 +223,42 @@ module _ {D : Type 0} (look : D → View) where
         generation = rest.generation ∙ one.generation;
       }
 
+-- a session that keeps all that is the same one
+same_kept : {D : Type 0} (look : D → View) (from to : SessionView D) → KeepsSession from to
+    → IsSameSession look from to
+same_kept {D} look from to keeps = record {
+  actors = keeps.count;
+  plan = keeps.plan;
+  geometry = keeps.geometry;
+  layout = keeps.layout;
+  generation = keeps.generation;
+  opening = record {
+    base = ap (λ (d : D). base_at (look d).zones) keeps.opening;
+    told = ap (λ (d : D). is_some (look d).zones) keeps.opening;
+    calls = ap (λ (d : D). (look d).calls) keeps.opening;
+    faults = ap (λ (d : D). (look d).faults) keeps.opening;
+  };
+}
+
 -- A SESSION THAT HAD JUST BEGUN WAS RUN BY ITS FIRST ACTOR
 pub runs_alone : {D : Type 0} (look : D → View) (from to : SessionView D) → IsNewSession from → RunsLone look from to
-    → (to.volume.plain.stopped ≡ None → AreCalm to.volume.plain.history) → RunsAlone from to
+    → (to.volume.plain.stopped ≡ None → AreCalm to.volume.plain.history) → RunsAlone look from to
 runs_alone look from to new lone calm =
     let turns = replicate lone.turns.0 (0, Prefer.Pieces) in
+    let keeps = turns_keep look turns from to lone.turns.1 in
     record {
-      keeps = turns_keep look turns from to lone.turns.1;
+      runs = record {
+        same = same_kept look from to keeps;
+        caused = turns_cause look turns from to lone.turns.1 (going from.volume.plain new.fresh.running);
+        calm = calm;
+      };
+      opening = keeps.opening;
       timely = lone.timely new;
-      cause = (turns_cause look turns from to lone.turns.1 (going from.volume.plain new.fresh.running)).cause;
-      calm = calm;
     }
+
+-- A STEP OF ANY ACTOR keeps the cause
+pub step_caused : {D : Type 0} (look : D → View) (from to : SessionView D) (actor : ℕ) (prefer : Prefer)
+    (result : Stepped) → MakesStep look from to actor prefer result → HasCause from.volume.plain
+    → HasCause to.volume.plain
+step_caused look from to actor prefer result makes cause =
+    turn_cause look from to actor prefer (next_seen from actor prefer) refl makes.makes cause

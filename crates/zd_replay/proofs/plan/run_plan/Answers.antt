@@ -22,34 +22,40 @@ returns-in-Err-clause-runs g c =
 
 pub returns-in-Err-clause-timely : goal.returns-in-Err-clause-timely
 returns-in-Err-clause-timely g c =
+    let view = g.D.ZonedDisk.view in
+    let volume = c.args.volume in
     let parts = c.parts_of-history.ensures in
-    let timely = unbegun_timely g.D.ZonedDisk.view c.args.plan c.args.volume c.in-Err.volume c.in-Err.ensures.err
-    c.requires.fresh.new in
-    subst (λ (h : List HistoryEntry). RunsInTime c.args.plan no_memory h c.args.volume.plain) (sym parts.history) timely
+    let timely = unbegun_timely view c.args.plan volume c.in-Err.volume c.in-Err.ensures.err c.requires.fresh.new
+    parts.shown in
+    subst (λ (h : List HistoryEntry). RunsInTime c.args.plan no_memory h volume.plain (view volume.opening)
+    (view c.parts_of-history.result.1)) (sym parts.history)
+    (subst (λ (d : _). RunsInTime c.args.plan no_memory c.in-Err.volume.plain.history volume.plain (view volume.opening)
+    (view d)) (sym parts.disk) timely)
 
 -- nobody else has a piece in flight
-pub finish-history-requires : goal.finish-history-requires
-finish-history-requires g c =
+pub finish-requires : goal.finish-requires
+finish-requires g c =
     c.run_alone.ensures.ended
     (new_begun c.args.plan c.args.volume c.in-Ok.session c.requires.fresh c.in-Ok.ensures.begins).alone
 
 pub returns-clause-runs : goal.returns-clause-runs
 returns-clause-runs g c =
+    let view = g.D.ZonedDisk.view in
     let run = c.run_alone.new.self in
     let begun = c.in-Ok.session in
     let new = new_begun c.args.plan c.args.volume begun c.requires.fresh c.in-Ok.ensures.begins in
     let calm = subst (λ (v : Seen _). v.plain.stopped ≡ None → AreCalm v.plain.history) c.volume.ensures c.calm.ensures in
-    finished_runs g.D.ZonedDisk.view c.args.plan c.args.volume begun run
-    c.finish-history.result.0.items c.finish-history.result.1 c.finish-history.result.2 c.in-Ok.ensures.begins
-    (runs_alone g.D.ZonedDisk.view begun run new c.run_alone.ensures calm) c.finish-history.ensures
-    c.sound.ensures.sets.shape
+    let alone = runs_alone view begun run new c.run_alone.ensures calm in
+    finished_runs view c.args.plan c.args.volume begun run c.finish.result.0.items c.finish.result.1 c.finish.result.2 1
+    c.in-Ok.ensures.begins alone.runs c.finish.ensures c.sound.ensures.sets.shape
 
 pub returns-clause-timely : goal.returns-clause-timely
 returns-clause-timely g c =
+    let view = g.D.ZonedDisk.view in
     let run = c.run_alone.new.self in
     let begun = c.in-Ok.session in
     let new = new_begun c.args.plan c.args.volume begun c.requires.fresh c.in-Ok.ensures.begins in
     let calm = subst (λ (v : Seen _). v.plain.stopped ≡ None → AreCalm v.plain.history) c.volume.ensures c.calm.ensures in
-    finished_timely g.D.ZonedDisk.view c.args.plan c.args.volume begun run
-    c.finish-history.result.0.items c.finish-history.result.1 c.finish-history.result.2 c.in-Ok.ensures.begins
-    (runs_alone g.D.ZonedDisk.view begun run new c.run_alone.ensures calm) c.finish-history.ensures
+    let alone = runs_alone view begun run new c.run_alone.ensures calm in
+    finished_timely view c.args.plan c.args.volume begun run c.finish.result.0.items c.finish.result.1 c.finish.result.2 1
+    c.in-Ok.ensures.begins alone.runs c.finish.ensures alone.timely alone.opening
