@@ -30,9 +30,9 @@ use Rattle.zd_state.specs.Seen.{Seen}
 use Rattle.zd_volume.specs.FaultCounts.{AreCalm, TellsFaults}
 use Rattle.zd_volume.specs.Volumes.{CountsSince, PlainVolume}
 use Rattle.zd_replay.specs.Ends.{all_done, no_generation, no_memory, stop_of}
-use Rattle.zd_replay.specs.Run.{HasCause, RunsInTime, RunsPlan, RunsSession, StandsSince, StopsFor}
+use Rattle.zd_replay.specs.Run.{RunsInTime, RunsPlan, RunsSession, SaysWhy, StandsSince, StopsFor}
 use Rattle.zd_replay.proofs.ClosingLaws.{opening_closed, stops_closing}
-use Rattle.zd_replay.proofs.TurnLaws.{going}
+use Rattle.zd_replay.proofs.TurnLaws.{going, says_why}
 
 -- A SESSION OF ONE ACTOR BEGINS over a volume that was just opened
 none_at : (i : ℕ) (p : Piece) → slice_get (None ∷ []) i ≡ Some (Some p) → ⊥
@@ -63,9 +63,10 @@ new_begun plan volume begun fresh begins = record {
 
 -- A SESSION OF ANY ACTORS BEGINS over such a volume: nothing stopped it
 pub caused_begun : {D : Type 0} (plan : List Request) (volume : Seen D) (actors : ℕ) (begun : SessionView D)
-    → IsFreshVolume volume → BeginsSession volume plan actors begun → HasCause begun.volume.plain
+    → IsFreshVolume volume → BeginsSession volume plan actors begun → SaysWhy begun.volume.plain
 caused_begun plan volume actors begun fresh begins =
-    going begun.volume.plain (ap (λ (v : PlainVolume). v.stopped) begins.over.plain ∙ fresh.running)
+    says_why begun.volume.plain
+    (going begun.volume.plain (ap (λ (v : PlainVolume). v.stopped) begins.over.plain ∙ fresh.running))
 
 -- what is true of a history since opening ended
 stands_since : (last : PlainVolume) (history : List HistoryEntry) (opening now : View)

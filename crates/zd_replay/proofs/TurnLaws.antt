@@ -34,7 +34,7 @@ use Rattle.zd_session.specs.Serving.{EntersTried, FailsEdge, ReadsEdgeOf, Serves
 use Rattle.zd_session.specs.Constants.{IsSameSession}
 use Rattle.zd_session.specs.SessionSteps.{KeepsSession, Makes, MakesStep, MakesTurns}
 use Rattle.zd_session.specs.Sessions.{SessionView, next_seen, run_seen, standing_seen}
-use Rattle.zd_replay.specs.Run.{HasCause, RunsAlone, StopsFor}
+use Rattle.zd_replay.specs.Run.{HasCause, RunsAlone, SaysWhy, StopsFor}
 
 -- a volume that goes on, and one whose disk failed
 pub going : (v : PlainVolume) → v.stopped ≡ None → HasCause v
@@ -256,9 +256,23 @@ runs_alone look from to new lone calm =
       timely = lone.timely new;
     }
 
--- A STEP OF ANY ACTOR keeps the cause
-pub step_caused : {D : Type 0} (look : D → View) (from to : SessionView D) (actor : ℕ) (prefer : Prefer)
-    (result : Stepped) → MakesStep look from to actor prefer result → HasCause from.volume.plain
-    → HasCause to.volume.plain
-step_caused look from to actor prefer result makes cause =
-    turn_cause look from to actor prefer (next_seen from actor prefer) refl makes.makes cause
+-- why a volume stopped, said both ways
+pub says_why : (v : PlainVolume) → HasCause v → SaysWhy v
+says_why v has = (λ is. has.cause Why.Memory is, λ is. has.cause Why.Generation is)
+
+pub has_cause : (v : PlainVolume) → SaysWhy v → HasCause v
+has_cause v says = record { cause = by }
+  where
+    by : (why : Why) → v.stopped ≡ Some why → StopsFor why v
+    by Why.Memory is = says.0 is
+    by Why.Device is = tt
+    by Why.Generation is = says.1 is
+
+-- A STEP OF ANY ACTOR says so again
+pub step_says : {D : Type 0} (look : D → View) (from to : SessionView D) (actor : ℕ) (prefer : Prefer)
+    (result : Stepped) → MakesStep look from to actor prefer result → SaysWhy from.volume.plain
+    → SaysWhy to.volume.plain
+step_says look from to actor prefer result makes says =
+    says_why to.volume.plain
+    (turn_cause look from to actor prefer (next_seen from actor prefer) refl makes.makes
+    (has_cause from.volume.plain says))

@@ -4,7 +4,7 @@ ghost use Rattle.std.specs.Prelude.{◌≡◌, ◌<◌, length, true};
 ghost use Rattle.zd_ports.specs.Actors.{IsLast};
 ghost use Rattle.zd_session.specs.Constants.{constant_of};
 ghost use Rattle.zd_session.specs.Sessions.{ended_of};
-ghost use Rattle.zd_replay.specs.Run.{HasCause};
+ghost use Rattle.zd_replay.specs.Run.{SaysWhy};
 
 use zd_base::{Prefer, Stepped};
 use zd_disk::ZonedDisk;
@@ -17,7 +17,7 @@ use zd_workers::Stepper;
 #[derive(Drop)]
 pub struct Caused<D: ZonedDisk> {
     pub session: Session<D>,
-    ghost caused: { HasCause session.volume.plain },
+    ghost caused: { SaysWhy session.volume.plain },
 }
 
 impl<D: ZonedDisk + Send> Stepper for Caused<D> {
