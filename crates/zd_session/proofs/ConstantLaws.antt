@@ -1,7 +1,7 @@
 -- The constant of a session is read back.
-use Rattle.std.proofs.Common.{◌≡◌, ℕ, zero, suc, ◌+◌, List, [], ◌∷◌, ◌++◌, length, map, take, drop, get_or, slice_index_or, Option, Some, None, refl, sym, ap, ap₂, ◌∙◌, arith}
+use Rattle.std.proofs.Common.{◌≡◌, ℕ, zero, suc, ◌+◌, List, [], ◌∷◌, ◌++◌, length, map, take, drop, get_or, Option, Some, None, refl, sym, ap, ap₂, ◌∙◌, arith}
 use Rattle.std.proofs.Math.Seq.{drop-append_seam, take-append_seam}
-use Rattle.std.proofs.lemmas.List.{length-append, nil_from_length}
+use Rattle.std.proofs.lemmas.List.{length-append}
 use Rattle.std.specs.List.{concat}
 use Rattle.std.specs.Prelude.{is_some}
 use Rattle.zd_base.specs.Geometry.{Shape}
@@ -12,8 +12,7 @@ use Rattle.zd_model.specs.Safe.{base_at}
 use Rattle.zd_model.specs.declared.requests.Request.{Request}
 use Rattle.zd_model.specs.declared.requests.What.{What}
 use Rattle.zd_model.specs.declared.requests.What.TheVariants.{Read, Write, Discard, Flush, ReadSectors, WriteSectors}
-use Rattle.zd_session.specs.Constants.{IsSameSession, IsToldAlike, constant_of, layout_line, opened_lines, request_line, told_number, what_line}
-use Rattle.zd_session.specs.SessionSteps.{KeepsSession}
+use Rattle.zd_session.specs.Constants.{IsSameSession, IsToldAlike, constant_of, opened_lines, request_line, told_number, what_line}
 use Rattle.zd_session.specs.Sessions.{SessionView}
 
 -- LISTS are parted where their fronts, or their ends, are of one length
@@ -152,10 +151,3 @@ module _ {D : Type 0} (look : D → View) (s t : SessionView D) (is : constant_o
         t.volume.plain.head.layout s.volume.plain.opening_generation t.volume.plain.opening_generation
         (look s.volume.opening) (look t.volume.opening) parts.1;
   }
-
--- what no step changes is the constant
-pub same_constant : {D : Type 0} (look : D → View) (s t : SessionView D) → KeepsSession s t
-    → constant_of look t ≡ constant_of look s
-same_constant {D} look s t keeps = ap₂ (λ (n : ℕ) (lines : List (List ℕ)). (n ∷ []) ∷ lines) keeps.count
-    (ap₂ (λ (plan : List Request) (lines : List (List ℕ)). map request_line plan ++ lines) keeps.plan
-    (rw (keeps.geometry, keeps.layout, keeps.generation, keeps.opening) refl))

@@ -1,11 +1,8 @@
 -- A session that the first actor steps until there is no step more: what is true before each step, and at the end.
-use Rattle.std.proofs.Common.{◌≡◌, ◌⊎◌, inl, inr, ℕ, zero, suc, ◌<◌, true, false, Bool, cond, ◌||◌, List, [], ◌∷◌, length, replicate, Option, Some, None, refl, sym, ap, ◌∙◌, subst}
-use Rattle.std.proofs.lemmas.Bool.{false≢true}
-use Rattle.std.proofs.lemmas.Option.{none-some}
-use Rattle.std.specs.Prelude.{if◌then◌else◌, is_some}
+use Rattle.std.proofs.Common.{◌≡◌, ◌⊎◌, inl, inr, ℕ, zero, suc, ◌<◌, true, false, Bool, cond, ◌||◌, List, length, replicate, Option, Some, None, refl, sym, ap, ◌∙◌, subst}
+use Rattle.std.specs.Prelude.{is_some}
 use Rattle.std.specs.Option.{option_map_or}
 use Rattle.zd_base.specs.declared.numbers.Why.{Why}
-use Rattle.zd_base.specs.declared.steps.Prefer.{Prefer}
 use Rattle.zd_base.specs.declared.steps.Prefer.TheVariants.{Pieces}
 use Rattle.zd_base.specs.declared.steps.StepKind.{StepKind}
 use Rattle.zd_base.specs.declared.steps.Stepped.{Stepped}
@@ -17,7 +14,7 @@ use Rattle.zd_progress.specs.Paces.{IsLastAnswer, IsMadeStep, IsPacedLoop, Keeps
 use Rattle.zd_progress.proofs.Loops.{later_limits, less, made_paced, paced_start, promised, same_limits}
 use Rattle.zd_model.specs.declared.requests.Piece.{Piece}
 use Rattle.zd_steps.specs.NextStep.{by_preference, commit_step, job_step, piece_step}
-use Rattle.zd_steps.specs.Runs.{Run, Standing, flight_of, is_over}
+use Rattle.zd_steps.specs.Runs.{flight_of, is_over}
 use Rattle.zd_steps.specs.declared.step.Step.{Step}
 use Rattle.zd_session.specs.LoneSessions.{IsNewSession, RunsLone}
 use Rattle.zd_session.specs.LoneStates.{Begun, StandsSession, begun_after, loop_of, most_of, rest_of}

@@ -1,5 +1,5 @@
 -- What a session tells of itself between steps.
-use Rattle.std.proofs.Common.{◌≡◌, ℕ, List, slice_get, Some, ap, sym, ◌∙◌}
+use Rattle.std.proofs.Common.{ℕ, List, slice_get, ap, ◌∙◌}
 use Rattle.zd_disk.specs.View.{View}
 use Rattle.zd_model.specs.declared.requests.Piece.{Piece}
 use Rattle.zd_model.specs.declared.requests.Request.{Request}

@@ -1,10 +1,7 @@
 -- Each step of the first actor, as the laws on runs that end see it.
-use Rattle.std.proofs.Common.{◌≡◌, ◌⊎◌, ℕ, ◌+◌, ◌*◌, ◌<◌, Bool, true, false, ◌||◌, cond, not, List, [], ◌∷◌, length, set, drop, count_by, Option, Some, None, refl, sym, ap, ap₂, ◌∙◌, subst, inl, inr, arith}
-use Rattle.std.proofs.lemmas.Bool.{and_parts}
-use Rattle.std.proofs.lemmas.Option.{none-some, same_Some}
-use Rattle.std.proofs.lemmas.List.Sums.{sum_by-cons}
-use Rattle.std.specs.List.{list_all}
-use Rattle.std.specs.Prelude.{if◌then◌else◌, is_some}
+use Rattle.std.proofs.Common.{◌≡◌, ◌⊎◌, ℕ, ◌+◌, ◌*◌, ◌<◌, Bool, true, false, List, [], ◌∷◌, length, set, Option, Some, None, refl, sym, ap, ap₂, ◌∙◌, subst, inl, inr}
+use Rattle.std.proofs.lemmas.Option.{none-some}
+use Rattle.std.specs.Prelude.{if◌then◌else◌}
 use Rattle.std.specs.Option.{option_map_or}
 use Rattle.zd_base.specs.Geometry.{Shape}
 use Rattle.zd_base.specs.Layout.{device_blocks, first_data_zone, used_blocks}
@@ -21,14 +18,13 @@ use Rattle.zd_model.specs.Requests.{Operation, operation_of}
 use Rattle.zd_model.specs.Requests.Operation.{Reading, Writing, Discarding, Flushing}
 use Rattle.zd_model.specs.declared.requests.Piece.{Piece}
 use Rattle.zd_model.specs.declared.requests.Request.{Request}
-use Rattle.zd_progress.specs.Alone.{FliesAlone, others_in}
+use Rattle.zd_progress.specs.Alone.{others_in}
 use Rattle.zd_progress.specs.Measures.{IsRestWithin, Rest}
-use Rattle.zd_progress.specs.Paces.{HaltsAt, IsAloneNow, IsAtLast, IsLastAnswer, IsMadeStep, KeepsLimits, LoopAnswers, LoopState}
+use Rattle.zd_progress.specs.Paces.{IsLastAnswer, IsMadeStep, KeepsLimits, LoopAnswers, LoopState}
 use Rattle.zd_progress.specs.Paces.HaltsAt.{silent}
 use Rattle.zd_progress.proofs.AloneLaws.{none_else}
 use Rattle.zd_progress.proofs.Loops.{same_limits}
-use Rattle.zd_steps.specs.NextStep.{kind_of}
-use Rattle.zd_steps.specs.Runs.{Run, Standing, is_entered, is_over}
+use Rattle.zd_steps.specs.Runs.{Run, Standing, is_over}
 use Rattle.zd_steps.specs.declared.step.Step.{Step}
 use Rattle.zd_steps.specs.declared.step.Step.TheVariants.{Begin, Commit, Serve, Work}
 use Rattle.zd_volume.specs.declared.flight.Flight.{Flight}
@@ -42,9 +38,9 @@ use Rattle.zd_session.proofs.PaceMade.{halts, made_paces}
 use Rattle.zd_session.proofs.StepLaws.{none_stopped, step_told}
 use Rattle.zd_session.specs.LoneSessions.{ats_of}
 use Rattle.zd_session.specs.LoneStates.{Begun, StandsSession, begun_after, loop_of, rest_of}
-use Rattle.zd_session.specs.Serving.{AfterRun, FailsEdge, GivesActor, KeepsActors, LandsActor, ReadsEdgeOf, ServesBy, ServesIn}
+use Rattle.zd_session.specs.Serving.{AfterRun, FailsEdge, LandsActor, ReadsEdgeOf, ServesBy, ServesIn}
 use Rattle.zd_session.specs.SessionSteps.{KeepsSession, Makes, MakesStep, answer_by}
-use Rattle.zd_session.specs.Sessions.{SessionView, ended_of, entries_to_come, next_seen, run_seen, standing_seen}
+use Rattle.zd_session.specs.Sessions.{SessionView, ended_of, next_seen, run_seen, standing_seen}
 
 -- what the first actor has changes nothing of the others
 others_set : (flights : List (Option Piece)) (flight : Option Piece) → others_in (set flights 0 flight) ≡ others_in flights

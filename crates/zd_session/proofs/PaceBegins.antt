@@ -1,11 +1,9 @@
 -- A job that begins, as the loop sees it.
-use Rattle.std.proofs.Common.{◌≡◌, ◌≢◌, ◌⊎◌, inl, inr, ℕ, ◌+◌, ◌-◌, ◌<◌, ◌≤◌, Bool, true, false, ◌||◌, cond, List, [], count_by, drop, length, set, take, Option, Some, None, Result, Ok, Err, refl, sym, ap, ap₂, ◌∙◌, subst, arith}
-use Rattle.std.specs.Prelude.{is_some, option_map, slice_index}
+use Rattle.std.proofs.Common.{◌≡◌, inl, inr, ℕ, ◌+◌, ◌≤◌, false, cond, List, [], count_by, set, take, Option, Some, None, Result, Ok, Err, refl, sym, ap, ap₂, ◌∙◌, subst, arith}
+use Rattle.std.specs.Prelude.{option_map, slice_index}
 use Rattle.std.specs.Result.{IfErr, OnOk}
 use Rattle.std.proofs.lemmas.List.{get_or-set_other, take-set-le}
 use Rattle.std.proofs.lemmas.List.Sums.{sum_by-set, sum_by-take-drop}
-use Rattle.std.proofs.lemmas.Option.{none-some}
-use Rattle.zd_base.specs.Geometry.{Shape}
 use Rattle.zd_base.specs.declared.geometry.Kind.TheVariants.{Conventional, Sequential}
 use Rattle.zd_base.specs.declared.numbers.Why.{Why}
 use Rattle.zd_base.specs.declared.numbers.Why.TheVariants.{Device, Generation}
@@ -13,19 +11,17 @@ use Rattle.zd_alloc.specs.Zones.{Division, TakesLeast, is_free, is_limbo, use_at
 use Rattle.zd_alloc.specs.declared.uses.ZoneUse.{ZoneUse}
 use Rattle.zd_alloc.specs.declared.uses.ZoneUse.TheVariants.{Free, Held, Meta}
 use Rattle.zd_disk.specs.View.{HasFailed, View}
-use Rattle.zd_model.specs.Tables.{NamesZone, Tables, entry_of}
+use Rattle.zd_model.specs.Tables.{Tables, entry_of}
 use Rattle.zd_model.specs.declared.metadata.MapEntry.{MapEntry}
 use Rattle.zd_model.specs.declared.requests.Piece.{Piece}
 use Rattle.zd_progress.specs.Alone.{HasOnlyJobs}
-use Rattle.zd_progress.specs.LoneRuns.{JobAhead}
 use Rattle.zd_progress.specs.LoneSteps.{StartsJob}
 use Rattle.zd_progress.specs.LoneSteps.LoneStep.{starts}
 use Rattle.zd_progress.specs.Paces.{HaltsAt, IsAtLast, PacesOn}
 use Rattle.zd_progress.specs.Paces.HaltsAt.{silent}
 use Rattle.zd_progress.specs.Paces.PacesOn.{steps}
-use Rattle.zd_progress.specs.Stocks.{IsPickedFor, Stock, in_limbo}
+use Rattle.zd_progress.specs.Stocks.{IsPickedFor, in_limbo}
 use Rattle.zd_routes.specs.Routes.{entry_touched}
-use Rattle.zd_state.specs.JobCalls.{HasToReset}
 use Rattle.zd_steps.specs.Runs.{Run, has_flush, is_over}
 use Rattle.zd_steps.specs.declared.step.Step.TheVariants.{Begin}
 use Rattle.zd_tables.proofs.TableLaws.{length-entries}
@@ -45,7 +41,7 @@ use Rattle.zd_session.specs.LoneStates.{Begun, StandsSession, begun_after, commi
 use Rattle.zd_session.specs.Serving.{KeepsActors}
 use Rattle.zd_session.specs.SessionSteps.{KeepsSession, ServesBegin}
 use Rattle.zd_session.specs.Sessions.{SessionView, run_seen}
-use Rattle.zd_session.specs.Standings.{is_under_way, needs_zone, takes_zone}
+use Rattle.zd_session.specs.Standings.{is_under_way, needs_zone}
 use Rattle.zd_session.proofs.JobMoves.{pick_possible, reset_or_not}
 use Rattle.zd_session.proofs.PaceCommits.{left_stays, run_stays, some_stay}
 use Rattle.zd_session.proofs.PacePicks.{picked}

@@ -1,54 +1,35 @@
 -- The calls of a commit, as the loop sees them.
-use Rattle.std.proofs.Common.{◌≡◌, ◌≢◌, ◌⊎◌, inl, inr, ℕ, suc, ◌+◌, ◌-◌, ◌*◌, ◌<◌, ◌≤◌, Bool, true, false, ◌||◌, cond, eqb, List, [], ◌∷◌, ◌++◌, filter, length, map, Option, Some, None, refl, sym, ap, ap₂, ◌∙◌, subst, arith}
+use Rattle.std.proofs.Common.{◌≡◌, ◌≢◌, ◌⊎◌, inl, inr, ℕ, ◌+◌, ◌<◌, Bool, true, false, cond, eqb, List, [], ◌∷◌, length, Option, Some, None, refl, sym, ap, ◌∙◌, arith}
 use Rattle.std.specs.Prelude.{option_map}
-use Rattle.std.specs.List.{list_any}
-use Rattle.std.proofs.lemmas.Bool.{cases_Bool, cases_lt, cond-false, eq-eqb, ne_eqb, true≢false}
-use Rattle.std.proofs.lemmas.List.{append-nil}
-use Rattle.zd_base.specs.declared.numbers.Why.{Why}
-use Rattle.zd_base.specs.declared.numbers.Why.TheVariants.{Device, Generation, Memory}
-use Rattle.zd_alloc.specs.Zones.{Division, after_limbo}
-use Rattle.zd_alloc.specs.declared.uses.ZoneUse.{ZoneUse}
+use Rattle.std.proofs.lemmas.Bool.{cond-false, ne_eqb, true≢false}
 use Rattle.zd_commit.specs.Closed.{calls_to_finish}
 use Rattle.zd_disk.specs.Told.{next_count}
 use Rattle.zd_disk.specs.View.{View}
-use Rattle.zd_model.specs.History.{HistoryEntry, Mark, mark_of_entry, mark_of_piece}
-use Rattle.zd_model.specs.Plain.Answer.{Done, Fault}
-use Rattle.zd_model.specs.declared.metadata.MapEntry.{MapEntry}
 use Rattle.zd_model.specs.declared.requests.Piece.{Piece}
-use Rattle.zd_progress.specs.Alone.{TellsNext}
 use Rattle.zd_progress.specs.LoneRuns.{IsAlone, IsBeside, JobAhead, LoneRun, calls_of_commit}
-use Rattle.zd_progress.specs.LoneSteps.{CommitsOn, EntersNow, IsCommitNeeded}
-use Rattle.zd_progress.specs.LoneSteps.EntryCause.{flush as by_flush}
+use Rattle.zd_progress.specs.LoneSteps.{CommitsOn, IsCommitNeeded}
 use Rattle.zd_progress.specs.LoneSteps.IsCommitNeeded.{flush, zone}
 use Rattle.zd_progress.specs.LoneSteps.LoneStep.{commits}
-use Rattle.zd_progress.specs.Paces.{CountsCommits, HaltsAt, IsAloneNow, IsAtLast, PacesOn, commits_under_way, with_entries}
-use Rattle.zd_progress.specs.Paces.HaltsAt.{faults, silent}
-use Rattle.zd_progress.specs.Paces.PacesOn.{enters, steps}
-use Rattle.zd_progress.specs.Stocks.{Stock}
-use Rattle.zd_progress.proofs.Counts.{ended}
+use Rattle.zd_progress.specs.Paces.{CountsCommits, PacesOn}
+use Rattle.zd_progress.specs.Paces.PacesOn.{steps}
 use Rattle.zd_progress.proofs.OnConventional.{cases_option}
 use Rattle.zd_steps.proofs.MemberLaws.{In, any-in, filter-in, in-any, in-filter}
 use Rattle.zd_steps.specs.Runs.{Run, eligible_flushes, has_flush, is_eligible_flush, is_over}
 use Rattle.zd_steps.specs.declared.step.Step.TheVariants.{Commit}
-use Rattle.zd_volume.proofs.CallsLeft.{last_call, one_less}
-use Rattle.zd_volume.specs.Commits.{Advances, CommitStep, EndsCommit, EndsLimbo, IsPhaseAfter, StopsCommit, calls_left, flush_entries}
-use Rattle.zd_volume.specs.Flights.{tables_now}
-use Rattle.zd_volume.specs.Phases.{after_block, end_generation}
+use Rattle.zd_volume.proofs.CallsLeft.{one_less}
+use Rattle.zd_volume.specs.Commits.{Advances, IsPhaseAfter, calls_left}
+use Rattle.zd_volume.specs.Phases.{after_block}
 use Rattle.zd_volume.specs.Uses.{dirty_from}
 use Rattle.zd_volume.specs.Volumes.{PlainVolume}
-use Rattle.zd_volume.specs.declared.phase.Committed.{Committed}
 use Rattle.zd_volume.specs.declared.phase.Phase.{Phase}
 use Rattle.zd_volume.specs.declared.phase.Phase.TheVariants.{Idle, InPlace, InPlaceFlush, InPlaceSuper, InPlaceSuperFlush, Log, LogFlush, LogSuper, LogSuperFlush}
 use Rattle.zd_session.specs.LoneSessions.{ats_of}
 use Rattle.zd_session.specs.LoneStates.{Begun, StandsSession, begun_after, commit_ahead, job_ahead, lone_run, loop_of, stock_of}
 use Rattle.zd_session.specs.Serving.{KeepsActors}
 use Rattle.zd_session.specs.SessionSteps.{KeepsSession}
-use Rattle.zd_session.specs.Sessions.{SessionView, entries_to_come, run_seen, standing_seen}
-use Rattle.zd_session.proofs.MakingLaws.{marks_flushed}
-use Rattle.zd_session.proofs.PaceEntries.{ats_flushed, flushes_less, some_left}
-use Rattle.zd_session.proofs.PaceSeen.{no_work_ahead}
-use Rattle.zd_session.proofs.PaceServed.{device_alone, stopped_runs}
-use Rattle.zd_session.proofs.PaceSteps.{count_most, in_order, same_pieces, same_seen}
+use Rattle.zd_session.specs.Sessions.{SessionView, entries_to_come, run_seen}
+use Rattle.zd_session.proofs.PaceEntries.{some_left}
+use Rattle.zd_session.proofs.PaceSteps.{count_most, same_seen}
 
 -- IN EVERY PHASE BUT THE FIRST the calls that are left are those of a commit under way
 idle_or_left : (p : Phase) → (p ≡ Idle)

@@ -1,9 +1,8 @@
 -- What a step of a job does: it copies, ends the job, or the disk failed.
-use Rattle.std.proofs.Common.{◌≡◌, ◌≢◌, ◌⊎◌, inl, inr, ℕ, ◌+◌, ◌-◌, ◌<◌, ◌≤◌, Bool, true, false, cond, nat_lt, List, set, Option, Some, None, Result, Ok, Err, refl, sym, ap, ◌∙◌, subst, arith}
+use Rattle.std.proofs.Common.{◌≡◌, ◌≢◌, inl, inr, ℕ, ◌+◌, ◌-◌, ◌≤◌, Bool, true, false, cond, nat_lt, List, set, Option, Some, None, Result, Ok, Err, refl, sym, ap, ◌∙◌, subst, arith}
 use Rattle.std.specs.Prelude.{slice_index}
-use Rattle.std.specs.Result.{OnErr, OnOk}
 use Rattle.std.proofs.lemmas.List.{get_or-set_other}
-use Rattle.std.proofs.lemmas.Option.{none-some, same_Some}
+use Rattle.std.proofs.lemmas.Option.{none-some}
 use Rattle.zd_base.specs.Geometry.{Shape}
 use Rattle.zd_base.specs.declared.numbers.Why.{Why}
 use Rattle.zd_base.specs.declared.numbers.Why.TheVariants.{Device}
@@ -14,7 +13,6 @@ use Rattle.zd_disk.specs.View.{View}
 use Rattle.zd_model.specs.Tables.{NamesZone, entry_of}
 use Rattle.zd_model.specs.declared.metadata.MapEntry.{MapEntry}
 use Rattle.zd_routes.specs.Routes.{pointers_with}
-use Rattle.zd_state.specs.JobCalls.{CopiesOn}
 use Rattle.zd_volume.specs.Flights.{tables_now}
 use Rattle.zd_volume.specs.Jobs.{FitsEntry, HasTarget, IsJob, IsJobOrNone}
 use Rattle.zd_volume.specs.Sets.{new_tables, old_tables}
@@ -22,9 +20,9 @@ use Rattle.zd_volume.specs.Volumes.{IsFixed, PlainVolume, sets_of}
 use Rattle.zd_volume.specs.declared.work.JobKind.{JobKind}
 use Rattle.zd_volume.specs.declared.work.JobKind.TheVariants.{Append, Empty, Merge, Move}
 use Rattle.zd_volume.specs.declared.work.Work.{Work}
-use Rattle.zd_jobs.specs.JobSteps.{FailsCopyRead, FailsCopyWrite, ReadsBlocks, WritesBlocksOn, WritesCopy}
+use Rattle.zd_jobs.specs.JobSteps.{ReadsBlocks, WritesBlocksOn, WritesCopy}
 use Rattle.zd_jobs.specs.Remaps.{RemapsChunk}
-use Rattle.zd_reclaim.specs.Works.{MakesNextStep, ReadsAhead, WorksOn}
+use Rattle.zd_reclaim.specs.Works.{WorksOn}
 use Rattle.zd_session.proofs.PaceSteps.{count_least, count_most}
 
 -- so many blocks of the target aren't written

@@ -6,7 +6,7 @@ use Rattle.std.proofs.lemmas.Bool.{cases_lt, false≢true, ne_eqb}
 use Rattle.std.proofs.lemmas.List.{get_or_past}
 use Rattle.std.proofs.lemmas.Option.{none-some}
 use Rattle.zd_base.specs.Geometry.{Shape}
-use Rattle.zd_base.specs.Layout.{device_blocks, first_data_zone, used_blocks}
+use Rattle.zd_base.specs.Layout.{first_data_zone, used_blocks}
 use Rattle.zd_base.specs.declared.geometry.Kind.{Kind}
 use Rattle.zd_base.specs.declared.geometry.Kind.TheVariants.{Conventional, Sequential}
 use Rattle.zd_base.specs.declared.layout.Layout.{Layout}
@@ -17,7 +17,6 @@ use Rattle.zd_alloc.specs.declared.uses.ZoneUse.TheVariants.{Limbo, Meta}
 use Rattle.zd_commit.specs.Closed.{calls_to_finish}
 use Rattle.zd_disk.specs.View.{View}
 use Rattle.zd_model.specs.History.{HistoryEntry, mark_of_entry}
-use Rattle.zd_model.specs.Pieces.{pieces_of}
 use Rattle.zd_model.specs.declared.requests.Piece.{Piece}
 use Rattle.zd_progress.proofs.Counts.{none_counts}
 use Rattle.zd_progress.specs.Alone.{FliesAlone, TellsNext, others_in}

@@ -1,9 +1,8 @@
 -- The last call of a commit, which enters the flushes that wait, and one that stops the volume.
-use Rattle.std.proofs.Common.{◌≡◌, ◌≢◌, ◌⊎◌, inl, inr, ℕ, suc, ◌+◌, ◌-◌, ◌^◌, ◌<◌, ◌≤◌, Bool, true, false, ◌||◌, cond, eqb, List, [], ◌∷◌, ◌++◌, length, map, Option, Some, None, refl, sym, ap, ap₂, ◌∙◌, subst, arith}
+use Rattle.std.proofs.Common.{◌≡◌, inl, inr, ℕ, suc, ◌+◌, ◌-◌, ◌<◌, ◌≤◌, Bool, true, false, List, ◌++◌, length, map, Some, None, refl, sym, ap, ap₂, ◌∙◌, arith}
 use Rattle.std.specs.Prelude.{option_map}
 use Rattle.std.proofs.lemmas.Bool.{cases_Bool, cases_lt, true≢false}
 use Rattle.std.proofs.lemmas.List.{append-nil}
-use Rattle.std.proofs.lemmas.Option.{none-some, same_Some}
 use Rattle.zd_base.specs.declared.numbers.Why.{Why}
 use Rattle.zd_base.specs.declared.numbers.Why.TheVariants.{Device, Generation, Memory}
 use Rattle.zd_alloc.specs.Zones.{Division, after_limbo}
@@ -11,7 +10,7 @@ use Rattle.zd_alloc.specs.declared.uses.ZoneUse.{ZoneUse}
 use Rattle.zd_commit.specs.Closed.{calls_to_finish}
 use Rattle.zd_disk.specs.Told.{next_count}
 use Rattle.zd_disk.specs.View.{View}
-use Rattle.zd_model.specs.History.{HistoryEntry, Mark, mark_of_entry, mark_of_piece}
+use Rattle.zd_model.specs.History.{mark_of_entry, mark_of_piece}
 use Rattle.zd_model.specs.Plain.{Answer}
 use Rattle.zd_model.specs.Plain.Answer.{Done, Fault}
 use Rattle.zd_model.specs.declared.metadata.MapEntry.{MapEntry}
@@ -22,24 +21,22 @@ use Rattle.zd_progress.specs.LoneSteps.LoneStep.{commits}
 use Rattle.zd_progress.specs.Paces.{CountsCommits, HaltsAt, IsAtLast, PacesOn, with_entries}
 use Rattle.zd_progress.specs.Paces.HaltsAt.{faults, silent}
 use Rattle.zd_progress.specs.Paces.PacesOn.{enters, steps}
-use Rattle.zd_progress.specs.Stocks.{Stock}
 use Rattle.zd_progress.proofs.Counts.{ended}
 use Rattle.zd_steps.specs.Runs.{Run, eligible_flushes, has_flush, is_over}
 use Rattle.zd_steps.specs.declared.step.Step.TheVariants.{Commit}
 use Rattle.zd_volume.proofs.CallsLeft.{last_call}
-use Rattle.zd_volume.specs.Commits.{CommitStep, EndsCommit, EndsLimbo, StopsCommit, calls_left, flush_entries}
+use Rattle.zd_volume.specs.Commits.{CommitStep, EndsCommit, EndsLimbo, flush_entries}
 use Rattle.zd_volume.specs.Flights.{tables_now}
 use Rattle.zd_volume.specs.Phases.{end_generation}
 use Rattle.zd_volume.specs.Volumes.{PlainVolume}
 use Rattle.zd_volume.specs.declared.phase.Committed.{Committed}
-use Rattle.zd_volume.specs.declared.phase.Phase.TheVariants.{Idle}
 use Rattle.zd_session.specs.LoneSessions.{ats_of}
 use Rattle.zd_session.specs.LoneStates.{Begun, StandsSession, begun_after, commit_ahead, job_ahead, lone_run, loop_of, stock_of}
 use Rattle.zd_session.specs.Serving.{KeepsActors}
 use Rattle.zd_session.specs.SessionSteps.{KeepsSession}
 use Rattle.zd_session.specs.Sessions.{SessionView, entries_to_come, run_seen}
 use Rattle.zd_session.proofs.MakingLaws.{marks_flushed}
-use Rattle.zd_session.proofs.PaceCommits.{all_left, begins, flush_none, flush_some, is_begun, left_or_all, left_stays, more_paces, one_commit, run_stays, some_stay}
+use Rattle.zd_session.proofs.PaceCommits.{all_left, flush_none, flush_some, is_begun, left_stays, more_paces, one_commit, run_stays, some_stay}
 use Rattle.zd_session.proofs.PaceEntries.{ats_flushed, flushes_less, some_left}
 use Rattle.zd_session.proofs.PaceSeen.{no_work_ahead}
 use Rattle.zd_session.proofs.PaceServed.{device_alone, stopped_runs}

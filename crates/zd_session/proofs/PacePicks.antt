@@ -1,10 +1,9 @@
 -- How a job is picked, as the loop sees it: it gives a conventional zone back, or no job does.
-use Rattle.std.proofs.Common.{◌≡◌, ◌≢◌, ◌⊎◌, inl, inr, ℕ, ◌<◌, ◌≤◌, Bool, true, false, cond, nat_lt, Option, Some, None, count_by, refl, sym, ap, ap₂, ◌∙◌, subst, arith}
+use Rattle.std.proofs.Common.{◌≡◌, ◌⊎◌, inl, inr, ℕ, ◌<◌, ◌≤◌, Bool, true, false, cond, Option, Some, None, count_by, refl, sym, ap, ap₂, ◌∙◌, subst, arith}
 use Rattle.std.specs.Prelude.{IsSomeAnd, nat_le, slice_index}
 use Rattle.std.proofs.lemmas.Bool.{cases_lt, lt-ltb}
 use Rattle.zd_base.specs.declared.geometry.Kind.TheVariants.{Sequential}
 use Rattle.zd_alloc.specs.Zones.{is_free, uses_of}
-use Rattle.zd_model.proofs.FaultLaws.{none_some}
 use Rattle.zd_model.specs.Tables.{entry_of}
 use Rattle.zd_model.specs.declared.metadata.MapEntry.{MapEntry}
 use Rattle.zd_progress.specs.Stocks.{HasNoBuffer, HasNoMove, IsPickedFor, free_of}
@@ -20,9 +19,9 @@ use Rattle.zd_jobs.proofs.EndZones.{there_is}
 use Rattle.zd_jobs.proofs.PossibleJobs.{possible_fits}
 use Rattle.zd_jobs.specs.Possible.{HasFreeSequential, IsPossible, kind_alone, kind_buffered, kind_by, kind_on}
 use Rattle.zd_jobs.specs.Remaps.{leaving}
-use Rattle.zd_reclaim.proofs.FreeZones.{free_counts, free_or_not}
+use Rattle.zd_reclaim.proofs.FreeZones.{free_counts}
 use Rattle.zd_reclaim.proofs.NeverStuck.{alone_kind}
-use Rattle.zd_reclaim.specs.Picks.{GivesConventional, HasNoJob, IsEmpty, IsGiving, IsMerge, IsPick}
+use Rattle.zd_reclaim.specs.Picks.{GivesConventional, HasNoJob, IsGiving, IsMerge, IsPick}
 use Rattle.zd_session.specs.LoneStates.{stock_of, zone_or_zero}
 use Rattle.zd_session.proofs.PaceSeen.{named_inside}
 

@@ -1,5 +1,5 @@
 -- The step of a piece, as the loop sees it: the piece flies on or is entered now; or the disk failed.
-use Rattle.std.proofs.Common.{◌≡◌, ◌≢◌, ◌⊎◌, inl, inr, ℕ, ◌+◌, ◌<◌, ◌≤◌, Bool, true, false, not, ◌||◌, cond, eqb, List, [], ◌∷◌, ◌++◌, length, get_or, map, set, Option, Some, None, refl, sym, ap, ◌∙◌, subst, arith}
+use Rattle.std.proofs.Common.{◌≡◌, ◌≢◌, ℕ, ◌<◌, Bool, true, cond, eqb, List, [], ◌∷◌, ◌++◌, length, get_or, map, set, Option, Some, None, refl, sym, ap, ◌∙◌, arith}
 use Rattle.std.specs.Prelude.{is_some, option_map}
 use Rattle.std.proofs.lemmas.Bool.{or_right}
 use Rattle.std.proofs.lemmas.List.{get_or-set_same, map-append}
@@ -7,18 +7,16 @@ use Rattle.std.proofs.lemmas.Option.{none-some, same_Some}
 use Rattle.zd_base.specs.declared.numbers.Why.{Why}
 use Rattle.zd_base.specs.declared.numbers.Why.TheVariants.{Device, Generation}
 use Rattle.zd_disk.specs.View.{View}
-use Rattle.zd_model.specs.History.{HistoryEntry, Mark, mark_of_entry, mark_of_piece}
+use Rattle.zd_model.specs.History.{Mark, mark_of_entry, mark_of_piece}
 use Rattle.zd_model.specs.declared.requests.Piece.{Piece}
 use Rattle.zd_progress.specs.LoneRuns.{LoneRun}
-use Rattle.zd_progress.specs.LoneSteps.{EntersNow, EntryCause, FliesOn}
 use Rattle.zd_progress.specs.LoneSteps.EntryCause.{ready as when_ready}
-use Rattle.zd_progress.specs.Paces.{CountsCommits, HaltsAt, IsAtLast, LoopState, Pace, PacesOn, commits_under_way}
+use Rattle.zd_progress.specs.Paces.{CountsCommits, HaltsAt, IsAtLast, Pace, PacesOn, commits_under_way}
 use Rattle.zd_progress.specs.Paces.{with_entries}
 use Rattle.zd_progress.specs.Paces.HaltsAt.{faults, silent}
 use Rattle.zd_progress.specs.Paces.PacesOn.{enters, flies}
 use Rattle.zd_steps.specs.NextStep.{piece_step}
-use Rattle.zd_steps.specs.Runs.{Run, flight_of, is_over, is_ready}
-use Rattle.zd_steps.specs.declared.step.Step.{Step}
+use Rattle.zd_steps.specs.Runs.{flight_of, is_over, is_ready}
 use Rattle.zd_steps.specs.declared.step.Step.TheVariants.{Serve}
 use Rattle.zd_volume.specs.Volumes.{PlainVolume}
 use Rattle.zd_session.specs.LoneSessions.{ats_of}

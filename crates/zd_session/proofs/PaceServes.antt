@@ -1,5 +1,5 @@
 -- What the step of a piece does, told by the volume: the piece goes on, is entered, or the disk failed.
-use Rattle.std.proofs.Common.{◌≡◌, ◌≢◌, ◌⊎◌, inl, inr, ℕ, ◌+◌, ◌<◌, ◌≤◌, Bool, true, false, List, [], ◌∷◌, ◌++◌, length, get_or, set, slice_get, Option, Some, None, refl, sym, ap, ◌∙◌, subst, arith}
+use Rattle.std.proofs.Common.{◌≡◌, ◌≢◌, inl, inr, ℕ, ◌+◌, ◌<◌, ◌≤◌, Bool, true, false, [], ◌∷◌, ◌++◌, length, get_or, set, slice_get, Option, Some, None, refl, sym, ap, ◌∙◌, subst, arith}
 use Rattle.std.specs.Prelude.{option_and_then}
 use Rattle.std.proofs.lemmas.Option.{none-some, same_Some, slice_get-get_or}
 use Rattle.zd_base.specs.declared.numbers.Why.{Why}
@@ -13,13 +13,11 @@ use Rattle.zd_model.specs.Requests.{Operation, operation_of}
 use Rattle.zd_model.specs.Requests.Operation.{Discarding, Flushing, Reading, Writing}
 use Rattle.zd_model.specs.declared.requests.Piece.{Piece}
 use Rattle.zd_progress.specs.Paces.{with_entries}
-use Rattle.zd_routes.specs.Writes.{with_failed_write, with_write}
 use Rattle.zd_volume.specs.Discards.{NoJobOn, chunk_touched}
 use Rattle.zd_volume.specs.Flights.{ReadStep, answered, with_entry}
 use Rattle.zd_volume.specs.Volumes.{PlainVolume}
 use Rattle.zd_volume.specs.declared.flight.Flight.{Flight}
 use Rattle.zd_volume.specs.declared.flight.Ran.{Ran}
-use Rattle.zd_volume.specs.declared.phase.Phase.{Phase}
 use Rattle.zd_volume.specs.declared.phase.Phase.TheVariants.{Idle}
 use Rattle.zd_volume.specs.declared.work.Work.{Work}
 use Rattle.zd_write.proofs.GivenJobs.{given_rest}
@@ -29,7 +27,7 @@ use Rattle.zd_write.specs.declared.steps.Tried.{Tried}
 use Rattle.zd_session.specs.LoneSessions.{ats_of}
 use Rattle.zd_session.specs.LoneStates.{StandsSession, commit_ahead}
 use Rattle.zd_session.specs.Serving.{AfterRun, EntersTried, IsReadOf, Serves, ServesBy, ServesEdge, ServesIn, ServesRead, ServesWrite, read_of}
-use Rattle.zd_session.specs.Sessions.{HasInHand, HoldsBy, SessionView, standing_seen}
+use Rattle.zd_session.specs.Sessions.{HoldsBy, SessionView, standing_seen}
 use Rattle.zd_session.specs.declared.actor.Actor.{Actor}
 use Rattle.zd_session.proofs.PaceEntries.{ats_one}
 use Rattle.zd_session.proofs.PaceSteps.{IsServed, count_most}

@@ -1,8 +1,7 @@
 -- What the steps of a run by the first actor have in common: the run as far as it has come, the piece that is served,
 -- and what a step leaves of the numbers.
-use Rattle.std.proofs.Common.{◌≡◌, ◌⊎◌, inl, inr, ℕ, ◌+◌, ◌<◌, ◌≤◌, Bool, true, false, not, ◌&&◌, ◌||◌, cond, eqb, List, [], ◌∷◌, ◌++◌, length, map, find, slice_get, Option, Some, None, refl, sym, ap, ap₂, ◌∙◌, subst, arith}
+use Rattle.std.proofs.Common.{◌≡◌, ℕ, ◌+◌, ◌<◌, ◌≤◌, Bool, true, false, not, ◌&&◌, ◌||◌, cond, eqb, List, [], ◌∷◌, length, map, find, slice_get, Option, Some, None, refl, sym, ap, ap₂, ◌∙◌, subst, arith}
 use Rattle.std.specs.Prelude.{is_some, nat_le, slice_index}
-use Rattle.std.proofs.lemmas.Bool.{cases_Bool, or_right}
 use Rattle.zd_base.specs.Geometry.{Shape}
 use Rattle.zd_base.specs.Layout.{device_blocks}
 use Rattle.zd_base.specs.declared.layout.Layout.{Layout}
@@ -15,7 +14,7 @@ use Rattle.zd_model.specs.declared.requests.Piece.{Piece}
 use Rattle.zd_steps.proofs.ChosenLaws.{may_serve}
 use Rattle.zd_steps.proofs.MemberLaws.{In, place-in}
 use Rattle.zd_steps.specs.NextStep.{first_serve, next_step, piece_step}
-use Rattle.zd_steps.specs.Queues.{AreInOrder, MayServe, head_of, run_of}
+use Rattle.zd_steps.specs.Queues.{AreInOrder, head_of}
 use Rattle.zd_steps.specs.Runs.{Run, flight_of, is_over, is_eligible, is_entered, is_ready, is_servable}
 use Rattle.zd_steps.specs.declared.step.Step.{Step}
 use Rattle.zd_steps.specs.declared.step.Step.TheVariants.{Serve}

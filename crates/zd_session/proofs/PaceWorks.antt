@@ -1,21 +1,18 @@
 -- A step of a job, as the loop sees it: a copy, or its end.
-use Rattle.std.proofs.Common.{◌≡◌, ◌≢◌, ◌⊎◌, inl, inr, ℕ, ◌+◌, ◌-◌, ◌<◌, ◌≤◌, Bool, true, false, List, get_or, length, set, Option, Some, None, refl, sym, ap, ap₂, ◌∙◌, subst, arith}
+use Rattle.std.proofs.Common.{◌≡◌, inl, inr, ℕ, ◌<◌, false, get_or, length, set, Option, Some, None, refl, sym, ap, ap₂, ◌∙◌, arith}
 use Rattle.std.specs.Prelude.{option_map}
 use Rattle.std.proofs.lemmas.Bool.{cases_eq}
 use Rattle.std.proofs.lemmas.List.{ext_get_or, get_or-set_other, get_or-set_same, length-set}
-use Rattle.std.proofs.lemmas.Option.{same_Some}
 use Rattle.zd_base.specs.declared.geometry.Kind.TheVariants.{Conventional}
 use Rattle.zd_base.specs.declared.numbers.Why.{Why}
 use Rattle.zd_base.specs.declared.numbers.Why.TheVariants.{Device, Generation}
 use Rattle.zd_alloc.specs.Zones.{use_after_release}
-use Rattle.zd_alloc.specs.declared.uses.ZoneUse.{ZoneUse}
 use Rattle.zd_commit.specs.Closed.{calls_to_finish}
 use Rattle.zd_disk.specs.View.{View}
 use Rattle.zd_model.specs.Tables.{Tables, entry_of}
 use Rattle.zd_model.specs.declared.metadata.MapEntry.{MapEntry}
 use Rattle.zd_model.specs.declared.requests.Piece.{Piece}
 use Rattle.zd_progress.specs.Alone.{HasOnlyJobs}
-use Rattle.zd_progress.specs.LoneRuns.{JobAhead}
 use Rattle.zd_progress.specs.LoneSteps.{CopiesOne, FinishesJob}
 use Rattle.zd_progress.specs.LoneSteps.LoneStep.{copies, finishes}
 use Rattle.zd_progress.specs.Paces.{HaltsAt, IsAtLast, PacesOn}
@@ -28,7 +25,6 @@ use Rattle.zd_tables.proofs.TableLaws.{length-entries}
 use Rattle.zd_volume.specs.Discards.{chunk_touched, range_first}
 use Rattle.zd_volume.specs.Flights.{tables_now}
 use Rattle.zd_volume.specs.Volumes.{IsFixed, PlainVolume, sets_of}
-use Rattle.zd_volume.specs.declared.phase.Phase.{Phase}
 use Rattle.zd_volume.specs.declared.phase.Phase.TheVariants.{Idle}
 use Rattle.zd_volume.specs.declared.work.Job.{Job}
 use Rattle.zd_volume.specs.declared.work.Work.{Work}

@@ -9,7 +9,7 @@ use Rattle.zd_base.specs.declared.numbers.Why.{Why}
 use Rattle.zd_base.specs.declared.steps.Prefer.{Prefer}
 use Rattle.zd_base.specs.declared.steps.Prefer.TheVariants.{Commits, Jobs, Pieces}
 use Rattle.zd_base.specs.declared.steps.Stepped.{Stepped}
-use Rattle.zd_base.specs.declared.steps.Stepped.TheVariants.{Did, Idle, Over, Stopped}
+use Rattle.zd_base.specs.declared.steps.Stepped.TheVariants.{Idle, Over}
 use Rattle.zd_disk.specs.View.{View}
 use Rattle.zd_model.specs.History.{Mark, mark_of_entry}
 use Rattle.zd_ports.specs.Actors.{IsLast}

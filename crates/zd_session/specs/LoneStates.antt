@@ -1,5 +1,5 @@
 -- A session as numbers: what the laws of `zd_progress` on why a run ends look at.
-use Rattle.std.specs.Prelude.{◌≡◌, ℕ, ◌+◌, ◌-◌, ◌*◌, ◌<◌, Bool, ◌&&◌, ◌||◌, ◌==◌, not, if◌then◌else◌, List, [], length, map}
+use Rattle.std.specs.Prelude.{◌≡◌, ℕ, ◌+◌, ◌-◌, ◌*◌, ◌&&◌, ◌||◌, ◌==◌, not, if◌then◌else◌, length, map}
 use Rattle.std.specs.Prelude.{slice_get, Option, Some, None, is_some, option_map}
 use Rattle.std.specs.List.{list_any}
 use Rattle.std.specs.Option.{option_map_or}
@@ -10,13 +10,13 @@ use Rattle.zd_disk.specs.View.{View}
 use Rattle.zd_jobs.specs.Remaps.{leaving}
 use Rattle.zd_model.specs.History.{mark_of_entry}
 use Rattle.zd_model.specs.Requests.{Operation, block_count, operation_of}
-use Rattle.zd_model.specs.Requests.Operation.{Reading, Writing}
+use Rattle.zd_model.specs.Requests.Operation.{Reading}
 use Rattle.zd_model.specs.Tables.{entry_of}
 use Rattle.zd_model.specs.declared.requests.Piece.{Piece}
 use Rattle.zd_progress.specs.Alone.{others_in}
 use Rattle.zd_progress.specs.LoneRuns.{JobAhead, LoneRun}
 use Rattle.zd_progress.specs.Measures.{Rest, jobs_ever}
-use Rattle.zd_progress.specs.Paces.{LoopState, Pace}
+use Rattle.zd_progress.specs.Paces.{LoopState}
 use Rattle.zd_progress.specs.Stocks.{Stock}
 use Rattle.zd_routes.specs.Edges.{bytes_at}
 use Rattle.zd_routes.specs.declared.edges.Edge.{Edge}
@@ -30,8 +30,6 @@ use Rattle.zd_volume.specs.Commits.{calls_left}
 use Rattle.zd_volume.specs.Flights.{tables_now}
 use Rattle.zd_volume.specs.Uses.{dirty_from}
 use Rattle.zd_volume.specs.Volumes.{IsFixed, PlainVolume}
-use Rattle.zd_volume.specs.declared.phase.Phase.{Phase}
-use Rattle.zd_volume.specs.declared.phase.Phase.TheVariants.{Idle}
 use Rattle.zd_volume.specs.declared.work.Work.{Work}
 use Rattle.zd_session.specs.LoneSessions.{ats_of}
 use Rattle.zd_session.specs.Sessions.{AreActors, CanServe, SessionView, ended_of, entries_to_come, pieces_on, run_seen}
