@@ -82,7 +82,7 @@ pub fn run_shared<D: ZonedDisk + Send, G: Gate + Sync, R: Threads + Wait + Sync>
     };
     let caused = run_actors(rt, alloc, Caused { session }, actors, gate);
     one_constant::<D>();
-    let Caused { session } = caused;
-    session.volume().calm();
-    session.finish()
+    let Caused { session: ended } = caused;
+    ended.volume().calm();
+    ended.finish()
 }
