@@ -35,7 +35,8 @@ impl Passes {
     fn called(&self, actor: u32, kind: StepKind) -> u64 {
         let count = match kind {
             StepKind::ReadRun => {
-                self.readers.fetch_or(1u64 << (actor % 64), Ordering::SeqCst);
+                self.readers
+                    .fetch_or(1u64 << (actor % 64), Ordering::SeqCst);
                 &self.reads
             }
             StepKind::Commit => &self.commits,

@@ -43,11 +43,17 @@ fn has_lines(text: &[u8], all: &[&str], last: &str) -> bool {
     let mut length = last.len().saturating_add(1);
     for line in all {
         length = length.saturating_add(line.len()).saturating_add(1);
-        if !text.split(|byte| *byte == b'\n').any(|it| it == line.as_bytes()) {
+        if !text
+            .split(|byte| *byte == b'\n')
+            .any(|it| it == line.as_bytes())
+        {
             return false;
         }
     }
-    text.len() == length && text.strip_suffix(b"\n").is_some_and(|it| it.ends_with(last.as_bytes()))
+    text.len() == length
+        && text
+            .strip_suffix(b"\n")
+            .is_some_and(|it| it.ends_with(last.as_bytes()))
 }
 
 #[test]
